@@ -1,0 +1,420 @@
+//! The fixed cases that every comparison begins with, each with the answer
+//! that paper 01 gives: its worked examples, its limits, and one case for each
+//! of its readings that look right and are wrong.
+
+use crate::case::{Case, Entry, Folder};
+
+pub struct FixedCase {
+    pub name: &'static str,
+    pub case: Case,
+    pub expected: Vec<u8>,
+}
+
+fn scenario(name: &'static str, input: &str, expected: &str) -> FixedCase {
+    FixedCase {
+        name,
+        case: Case::Scenario(input.as_bytes().to_vec()),
+        expected: expected.as_bytes().to_vec(),
+    }
+}
+
+fn folder(
+    name: &'static str,
+    input: &str,
+    entries: Vec<(&str, Entry)>,
+    expected: &str,
+) -> FixedCase {
+    let entries = entries
+        .into_iter()
+        .map(|(file, entry)| (file.as_bytes().to_vec(), entry))
+        .collect();
+    FixedCase {
+        name,
+        case: Case::Folder(Folder { input: input.as_bytes().to_vec(), entries }),
+        expected: expected.as_bytes().to_vec(),
+    }
+}
+
+/// Every fixed case, scenarios first.
+pub fn fixed_cases() -> Vec<FixedCase> {
+    let mut cases = vec![
+        the_pair(),
+        lone_reader_at_40_000(),
+        lone_reader_at_100_000(),
+        reader_again_while_averager_lives(),
+        start_timeout_from_launch(),
+        restart_after_a_users_stop(),
+        dependency_released_too_early(),
+        closing_dependency_taken_as_up(),
+        times(),
+        values(),
+        lent_positions(),
+        lent_room(),
+        bad_lines(),
+        input_is_cut(),
+    ];
+    cases.extend(bad_times());
+    cases.extend(text_limit_scenarios());
+    cases.extend(service_limit_scenarios());
+    cases.extend(folder_cases());
+    cases
+}
+
+const PAIR: &str = "\
+service reader
+|type=process
+|command=/bin/reader
+|restart=yes
+service averager
+|type=process
+|command=/bin/averager
+|restart=yes
+|depends-on: reader
+load 64
+";
+
+const PAIR_LOADED: &str = "0 reader process\n1 averager process\nok 2\n";
+
+const PAIR_UP: &str = "start 1\nrun\n";
+
+const PAIR_UP_ANSWER: &str = "ok\nrun 4; moved 1; moved 0; launch 0; launch 1\n";
+
+const LONE_READER: &str = "\
+service reader
+|type=process
+|command=/bin/reader
+|restart=yes
+load 64
+start 0
+run
+";
+
+const LONE_READER_UP: &str = "0 reader process\nok 1\nok\nrun 2; moved 0; launch 0\n";
+
+fn the_pair() -> FixedCase {
+    let calls = "start 1\nnext\nnext\nnext\nnext\nnext\nclock 50000\nend 0 bad\nnext\nnext\n\
+                 next\nend 1 good\nnext\nnext\nnext\nnext\nnext\nnext\n";
+    let answers = "ok\nmoved 1\nmoved 0\nlaunch 0\nlaunch 1\nquiet\nok\nok\nmoved 1\n\
+                   signal 1 TERM\nquiet\nok\nmoved 0\nmoved 1\nmoved 0\nlaunch 0\nlaunch 1\n\
+                   quiet\n";
+    scenario("the pair", &format!("{PAIR}{calls}"), &format!("{PAIR_LOADED}{answers}"))
+}
+
+fn lone_reader_falls(name: &'static str, fourth: u64, last: &str) -> FixedCase {
+    let mut calls = String::new();
+    let mut answers = String::new();
+    for time in [10_000, 20_000, 30_000] {
+        calls.push_str(&format!("clock {time}\nend 0 bad\nrun\n"));
+        answers.push_str("ok\nok\nrun 3; moved 0; moved 0; launch 0\n");
+    }
+    calls.push_str(&format!("clock {fourth}\nend 0 bad\nrun\nstate\n"));
+    answers.push_str(&format!("ok\nok\n{last}"));
+    scenario(
+        name,
+        &format!("{LONE_READER}{calls}"),
+        &format!("{LONE_READER_UP}{answers}"),
+    )
+}
+
+fn lone_reader_at_40_000() -> FixedCase {
+    lone_reader_falls(
+        "the lone reader, its fourth fall at 40,000",
+        40_000,
+        "run 1; moved 0\nclock 40000\n0 down wanted=0 aside=1 live=0 cause=none deadline=none \
+         killed=0 not-before=22000 last-launch=30000 window-start=0 restarts=3\n",
+    )
+}
+
+fn lone_reader_at_100_000() -> FixedCase {
+    lone_reader_falls(
+        "the lone reader, its fourth fall at 100,000",
+        100_000,
+        "run 3; moved 0; moved 0; launch 0\nclock 100000\n0 up wanted=1 aside=0 live=1 \
+         cause=none deadline=none killed=0 not-before=32000 last-launch=100000 \
+         window-start=100000 restarts=1\n",
+    )
+}
+
+fn reader_again_while_averager_lives() -> FixedCase {
+    scenario(
+        "wrong reading: launching the reader again while the averager lives",
+        &format!("{PAIR}{PAIR_UP}clock 50000\nend 0 bad\nrun\nnext\nclock 140000\nrun\n"),
+        &format!(
+            "{PAIR_LOADED}{PAIR_UP_ANSWER}ok\nok\nrun 2; moved 1; signal 1 TERM\nquiet\nok\n\
+             run 0\n"
+        ),
+    )
+}
+
+fn start_timeout_from_launch() -> FixedCase {
+    scenario(
+        "wrong reading: the start timeout from when dependencies stopped",
+        "service first\n|type=scripted\n|command=first\n|start-timeout=60\n\
+         service then\n|type=scripted\n|command=then\n|start-timeout=5\n|depends-on: first\n\
+         load 64\nstart 1\nrun\nclock 100000\nrun\nend 0 good\nrun\nquery\nclock 149999\nrun\n\
+         clock 150000\nrun\n",
+        "0 first scripted\n1 then scripted\nok 2\nok\nrun 3; moved 1; moved 0; launch 0\nok\n\
+         run 0\nok\nrun 1; launch 1\nat 150000\nok\nrun 0\nok\nrun 1; signal 1 INT\n",
+    )
+}
+
+fn restart_after_a_users_stop() -> FixedCase {
+    scenario(
+        "wrong reading: restarting after a user's stop",
+        &format!("{LONE_READER}clock 50000\nstop 0\nrun\nend 0 good\nrun\nclock 900000\nrun\n"),
+        &format!("{LONE_READER_UP}ok\nok\nrun 1; signal 0 TERM\nok\nrun 0\nok\nrun 0\n"),
+    )
+}
+
+fn dependency_released_too_early() -> FixedCase {
+    scenario(
+        "wrong reading: releasing a dependency before its fallen dependent wakes",
+        &format!("{PAIR}{PAIR_UP}clock 50000\nend 1 bad\nrun\n"),
+        &format!("{PAIR_LOADED}{PAIR_UP_ANSWER}ok\nok\nrun 3; moved 1; moved 1; launch 1\n"),
+    )
+}
+
+fn closing_dependency_taken_as_up() -> FixedCase {
+    scenario(
+        "wrong reading: treating a closing dependency as up",
+        &format!("{PAIR}{PAIR_UP}clock 1000\nend 1 bad\nrun\nstop 0\nclock 2000\nnext\n"),
+        &format!(
+            "{PAIR_LOADED}{PAIR_UP_ANSWER}ok\nok\nrun 2; moved 1; moved 1\nok\nok\n\
+             signal 0 TERM\n"
+        ),
+    )
+}
+
+fn times() -> FixedCase {
+    scenario(
+        "good times",
+        "service a\n|type=internal\n|start-timeout=86400\n|restart-delay=0.2\nload 0\nshow\n",
+        "0 a internal\nok 1\n0 type=internal restart=no restart-delay=2000 \
+         restart-limit-interval=100000 restart-limit-count=3 start-timeout=864000000 \
+         stop-timeout=100000 term-signal=TERM depends-on= depends-ms= waits-for= command=0 \
+         stop-command=0\ntokens -\n",
+    )
+}
+
+fn bad_times() -> Vec<FixedCase> {
+    let bad = [
+        ("the time 86400.0001", "86400.0001"),
+        ("the time .5", ".5"),
+        ("the time 5.", "5."),
+        ("the time 0.00001", "0.00001"),
+    ];
+    let case = |(name, time)| {
+        let input = format!("service a\n|type=internal\n|stop-timeout={time}\nload 0\n");
+        scenario(name, &input, "refused 11 service 0 line 2\n")
+    };
+    bad.into_iter().map(case).collect()
+}
+
+fn values() -> FixedCase {
+    scenario(
+        "values",
+        "service a\n|type=process\n|command=a  b # c\nservice b\n|type=process\n\
+         |command=\"a  b\"c\nservice c\n|type=process\n|command=a\\ b\nload 64\nshow\n\
+         service d\n|type=process\n|command=a#b\nload 64\n",
+        "0 a process\n1 b process\n2 c process\nok 3\n\
+         0 type=process restart=no restart-delay=2000 restart-limit-interval=100000 \
+         restart-limit-count=3 start-timeout=600000 stop-timeout=100000 term-signal=TERM \
+         depends-on= depends-ms= waits-for= command=2 stop-command=0\n\
+         1 type=process restart=no restart-delay=2000 restart-limit-interval=100000 \
+         restart-limit-count=3 start-timeout=600000 stop-timeout=100000 term-signal=TERM \
+         depends-on= depends-ms= waits-for= command=1 stop-command=0\n\
+         2 type=process restart=no restart-delay=2000 restart-limit-interval=100000 \
+         restart-limit-count=3 start-timeout=600000 stop-timeout=100000 term-signal=TERM \
+         depends-on= depends-ms= waits-for= command=1 stop-command=0\n\
+         tokens 61006200612020626300612062\
+         00\nrefused 7 service 3 line 2\n",
+    )
+}
+
+fn lent_positions() -> FixedCase {
+    scenario(
+        "lent positions: odd, falling, not at the end, none",
+        "load 0 -\nload 0\nload 0 0\nload 0 0 0\nservice a\n|type=internal\nload 0\n\
+         load 0 1 15\nload 0 1\nload 0 1 14\nload 0 1 16\nload 0 15 1\nload 0 -\nload 0 1 1 1 15\n\
+         load 0 18446744073709551615 15\nshow\n",
+        "ok 0\nok 0\nrefused 2 service 0 line 0\nrefused 3 service 0 line 0\n\
+         0 a internal\nok 1\n0 a internal\nok 1\nrefused 2 service 0 line 0\n\
+         refused 2 service 0 line 0\nrefused 2 service 0 line 0\nrefused 2 service 0 line 0\n\
+         refused 2 service 0 line 0\nrefused 3 service 1 line 0\nrefused 2 service 0 line 0\n\
+         bad line 16\n",
+    )
+}
+
+fn lent_room() -> FixedCase {
+    scenario(
+        "lent room: just enough and one too few",
+        "service a\n|type=scripted\n|command=ab c\n|stop-command=d \"\"\nload 8\nload 7\nload 0\n",
+        "0 a scripted\nok 1\nrefused 25 service 0 line 0\nrefused 25 service 0 line 0\n",
+    )
+}
+
+fn bad_lines() -> FixedCase {
+    scenario(
+        "bad lines",
+        "|x\n!x\nservice\nnext\nservice a\n|type=internal\nload\nload 65537\nload 00000000000000000000\n\
+         load 000000000000000000000\nnext\r\nnext \n next\nstart  0\nstart 18446744073709551616\n\
+         start 18446744073709551615\nrun 4\nrun 257 4\nrun 3 4\nrun 4 4\n% says nothing\n\n\
+         set 32 live 0\nset 0 live 2\nset 0 live 00\nset 0 phase Up\nset 00 deadline 0\n\
+         end 0 fine\nend 0 good\nquery\nclock 281474976710657\nclock 281474976710656\nclock 5\n",
+        "bad line 1\nbad line 2\nbad line 3\nbad line 4\nbad line 7\nbad line 8\n\
+         0 a internal\nok 1\nbad line 10\nbad line 11\nbad line 12\nbad line 13\nbad line 14\n\
+         bad line 15\nrefused 20\nbad line 17\nbad line 18\nrefused 25\nrun 0\nbad line 23\n\
+         bad line 24\nbad line 25\nbad line 26\nok\nbad line 28\nrefused 21\nnone\nrefused 23\n\
+         ok\nrefused 22\n",
+    )
+}
+
+/// The cut after 262,144 bytes falls into the time of a clock reading.
+fn input_is_cut() -> FixedCase {
+    let begin = "service a\n|type=internal\nload 0\n";
+    let call = "clock 12345\nstate\n";
+    let filling = crate::scenario::INPUT_BYTES - begin.len() - "clock 12".len();
+    let comment = format!("%{}\n", "-".repeat(filling - 2));
+    let input = format!("{begin}{comment}{call}{call}");
+    scenario("the input is cut at 262,144 bytes", &input, "0 a internal\nok 1\nok\n")
+}
+
+/// A text of internal type of exactly this many bytes, as scenario lines.
+fn text_of(bytes: usize) -> String {
+    let begin = "type=internal\n";
+    format!("{begin}#{}", "x".repeat(bytes - begin.len() - 1))
+}
+
+fn as_scenario_lines(text: &str) -> String {
+    let mut lines = String::new();
+    let mut rest = text;
+    while let Some((line, after)) = rest.split_once('\n') {
+        lines.push_str(&format!("|{line}\n"));
+        rest = after;
+    }
+    if !rest.is_empty() {
+        lines.push_str(&format!("!{rest}\n"));
+    }
+    lines
+}
+
+fn text_limit_scenarios() -> Vec<FixedCase> {
+    let one = |bytes| format!("service a\n{}load 0\n", as_scenario_lines(&text_of(bytes)));
+    let mut full = String::new();
+    let mut loaded = String::new();
+    for service in 0..8 {
+        full.push_str(&format!("service s{service}\n{}", as_scenario_lines(&text_of(4_096))));
+        loaded.push_str(&format!("{service} s{service} internal\n"));
+    }
+    full.push_str("load 0\n!\n!x\nload 0\nservice last\nload 0\n");
+    loaded.push_str("ok 8\nrefused 5 service 7 line 0\nrefused 5 service 7 line 0\n");
+    let mut beyond = String::new();
+    for service in 0..8 {
+        beyond.push_str(&format!("service s{service}\n{}", as_scenario_lines(&text_of(4_096))));
+    }
+    beyond.push_str("service last\nload 0\n!#\nload 0\n");
+    vec![
+        scenario("4,096 bytes", &one(4_096), "0 a internal\nok 1\n"),
+        scenario("4,097 bytes", &one(4_097), "refused 5 service 0 line 0\n"),
+        scenario("32,768 bytes in all, then a text too long", &full, &loaded),
+        scenario(
+            "32,769 bytes in all",
+            &beyond,
+            "refused 13 service 8 line 0\nrefused 5 service 8 line 0\n",
+        ),
+    ]
+}
+
+fn service_limit_scenarios() -> Vec<FixedCase> {
+    let mut input = String::new();
+    let mut loaded = String::new();
+    for service in 0..32 {
+        input.push_str(&format!("service s{service}\n|type=internal\n"));
+        loaded.push_str(&format!("{service} s{service} internal\n"));
+    }
+    loaded.push_str("ok 32\n");
+    let beyond = format!("{input}load 0\nservice s32\n|type=internal\nload 0\n");
+    let refused = format!("{loaded}refused 1 service 0 line 0\n");
+    vec![
+        scenario("32 services", &format!("{input}load 0\n"), &loaded),
+        scenario("33 services", &beyond, &refused),
+    ]
+}
+
+const READER_FILE: &str = "type=process\ncommand=/bin/reader\nrestart=yes\n";
+const AVERAGER_FILE: &str =
+    "type=process\ncommand=/bin/averager\ndepends-on: reader\nrestart=yes\n";
+
+fn file(text: &str) -> Entry {
+    Entry::File(text.as_bytes().to_vec())
+}
+
+fn folder_cases() -> Vec<FixedCase> {
+    let long = "x".repeat(33);
+    let mut many = String::new();
+    for service in 0..33 {
+        many.push_str(&format!("s{service}\n"));
+    }
+    let mut full: Vec<(String, Entry)> = Vec::new();
+    for service in 0..8 {
+        full.push((format!("s{service}"), file(&text_of(4_096))));
+    }
+    let at_the_total: Vec<(&str, Entry)> =
+        full.iter().map(|(name, entry)| (name.as_str(), entry.clone())).collect();
+    let mut past_the_total = at_the_total.clone();
+    past_the_total[0].1 = file(&text_of(4_097));
+    let eight = "s0\ns1\ns2\ns3\ns4\ns5\ns6\ns7\n";
+    vec![
+        folder(
+            "the pair in a folder",
+            "reader\naverager\n",
+            vec![("reader", file(READER_FILE)), ("averager", file(AVERAGER_FILE))],
+            PAIR_LOADED,
+        ),
+        folder(
+            "the pair with an absent clock",
+            "reader\naverager",
+            vec![
+                ("reader", file(READER_FILE)),
+                ("averager", file("type=process\ncommand=/bin/averager\ndepends-on: clock\n")),
+            ],
+            "refused 15 service 1 line 3\n",
+        ),
+        folder("no names", "", vec![], "ok 0\n"),
+        folder("an empty name", "\n", vec![], "refused 3 service 0 line 0\n"),
+        folder("a missing file", "reader\n", vec![], "unreadable 0\n"),
+        folder(
+            "a directory in place of a file",
+            "reader\naverager\n",
+            vec![("reader", file("bad")), ("averager", Entry::Directory)],
+            "unreadable 1\n",
+        ),
+        folder("33 names", &many, vec![], "refused 1 service 0 line 0\n"),
+        folder("a long name", &format!("{long}y\n"), vec![], "refused 3 service 0 line 0\n"),
+        folder("a repeated name", "a\nb\na\n", vec![], "refused 4 service 2 line 0\n"),
+        folder(
+            "a file of 4,096 bytes",
+            "a\n",
+            vec![("a", file(&text_of(4_096)))],
+            "0 a internal\nok 1\n",
+        ),
+        folder(
+            "a file of 4,097 bytes",
+            "a\n",
+            vec![("a", file(&text_of(4_097)))],
+            "refused 5 service 0 line 0\n",
+        ),
+        folder(
+            "texts of 32,768 bytes, and a missing file",
+            &format!("{eight}missing\n"),
+            at_the_total,
+            "unreadable 8\n",
+        ),
+        folder(
+            "texts that pass 32,768 bytes, and a missing file after",
+            &format!("{eight}missing\n"),
+            past_the_total,
+            "refused 5 service 0 line 0\n",
+        ),
+    ]
+}
