@@ -1,0 +1,158 @@
+-- Sets that a loop gathers as bits, and what is asked of them: the laws that turn a test on sets into a test on services.
+use Prim.Native.Nat.{ℕ, zero, suc, _+_, _-_, _*_, _/_, _%_, _^_, _≤_, _<_}
+use native.Mathlib.Nat.{not-suc-le-zero, le-of-suc-le-suc, le-refl, lt-of-le-of-lt, lt-of-lt-of-le, eq-or-lt-of-le, mod-eq-of-lt, mod-one, one-mul, zero-add, zero-mul, add-zero}
+use native.Mathlib.Omega.{arith}
+use mathlib.Core.Path.{_≡_, refl, sym, ap, _∙_}
+use mathlib.Core.Bool.{Bool, true, false, _||_, _&&_, not, false≢true}
+use mathlib.Core.Logic.{_⊎_, inl, inr}
+use lib.Dec.{eqb, eqb·suc-zero}
+use lib.Pow.{pow-pos, pow-mono, pow-lt, mod-pow-add, shl-exact}
+use lib.Bits.{bitAnd, bitOr, and-le-r, or-lt}
+use Rattle.base.specs.Folds.{pick, fold, some, first, firstFrom}
+use Rattle.base.specs.Sets.{hasBit, single, kept, overlap, marked, union}
+use Rattle.base.proofs.Tests.{either}
+use Rattle.base.proofs.Below.{some-as, first-as}
+use Rattle.base.proofs.Bits.{hasBit-or, hasBit-and, hasBit-none, hasBit-small, power-at, power-over}
+
+-- a digit at k and what is below it are 0 together where both are
+digit-zero : (d q r : ℕ) → 0 < q → d < 2 → not (eqb (d * q + r) 0) ≡ (not (eqb r 0) || eqb d 1)
+digit-zero zero q r h l = ap (λ m. not (eqb m 0)) (ap (λ m. m + r) (zero-mul q) ∙ zero-add r) ∙ or-none (not (eqb r 0))
+  where
+    or-none : (x : Bool) → x ≡ (x || false)
+    or-none true = refl
+    or-none false = refl
+digit-zero (suc zero) (suc q) r h l = ap (λ m. not (eqb m 0)) (one r) ∙ ap not (eqb·suc-zero (q + r)) ∙ or-one (not (eqb r 0))
+  where
+    or-one : (x : Bool) → true ≡ (x || true)
+    or-one true = refl
+    or-one false = refl
+
+    one : (r : ℕ) → 1 * suc q + r ≡ suc (q + r)
+    one r = omega arith
+digit-zero (suc zero) zero r h l = absurd (not-suc-le-zero h)
+digit-zero (suc (suc d)) q r h l = absurd (not-suc-le-zero (le-of-suc-le-suc (le-of-suc-le-suc l)))
+
+-- some bit below k is 1 where the low k bits are not 0
+pub some-bit : (m k : ℕ) → some (hasBit m) k ≡ not (eqb (m % 2 ^ k) 0)
+unfolding hasBit some
+some-bit m zero = sym (ap (λ a. not (eqb a 0)) (mod-one m))
+some-bit m (suc k) =
+    ap (λ b. b || hasBit m k) (some-bit m k)
+    ∙ sym (digit-zero (m / 2 ^ k % 2) (2 ^ k) (m % 2 ^ k) (pow-pos k) (omega arith))
+    ∙ sym (ap (λ a. not (eqb a 0)) (ap (λ j. m % 2 ^ j) (s k) ∙ mod-pow-add m 1 k))
+  where
+    s : (k : ℕ) → suc k ≡ 1 + k
+    s k = omega arith
+
+-- two sets overlap where some number below n is in both, if one of them ends before n
+pub overlap-some : (m c n : ℕ) → c < 2 ^ n → overlap m c ≡ some (λ d. hasBit m d && hasBit c d) n
+unfolding overlap
+overlap-some m c n h =
+    ap (λ a. not (eqb a 0)) (sym (mod-eq-of-lt (lt-of-le-of-lt (and-le-r m c) h)))
+    ∙ sym (some-bit (bitAnd m c) n)
+    ∙ some-as (hasBit (bitAnd m c)) (λ d. hasBit m d && hasBit c d) n (λ i l. hasBit-and m c i)
+
+pub single-at : (i : ℕ) (b : Bool) → hasBit (single i b) i ≡ b
+single-at i true = power-at i
+single-at i false = hasBit-none i
+
+single-over : (i j : ℕ) (b : Bool) → j < i → hasBit (single i b) j ≡ false
+single-over i j true l = power-over i j l
+single-over i j false l = hasBit-none j
+
+single-lt : (i : ℕ) (b : Bool) → single i b < 2 ^ suc i
+single-lt i true = pow-lt (le-refl (suc i))
+single-lt i false = pow-pos (suc i)
+
+pub kept-bit : (b : Bool) (m s : ℕ) → hasBit (kept b m) s ≡ (hasBit m s && b)
+kept-bit true m s = and-true (hasBit m s)
+  where
+    and-true : (x : Bool) → x ≡ (x && true)
+    and-true true = refl
+    and-true false = refl
+kept-bit false m s = hasBit-none s ∙ and-false (hasBit m s)
+  where
+    and-false : (x : Bool) → false ≡ (x && false)
+    and-false true = refl
+    and-false false = refl
+
+pub marked-lt : (p : ℕ → Bool) (n : ℕ) → marked p n < 2 ^ n
+marked-lt p zero = pow-pos 0
+marked-lt p (suc n) =
+    or-lt (suc n) (marked p n) (single n (p n)) (lt-of-lt-of-le (marked-lt p n) (pow-mono (omega arith))) (single-lt n (p n))
+
+or-no : (x : Bool) → (x || false) ≡ x
+or-no true = refl
+or-no false = refl
+
+-- a number below n is in the set where p holds at it
+pub marked-bit : (p : ℕ → Bool) (n i : ℕ) → i < n → hasBit (marked p n) i ≡ p i
+marked-bit p zero i l = absurd (not-suc-le-zero l)
+marked-bit p (suc n) i l =
+    hasBit-or (marked p n) (single n (p n)) i
+    ∙ either
+    (eq-or-lt-of-le (le-of-suc-le-suc l))
+    (λ (q : i ≡ n). rw (q, hasBit-small (marked p n) n (marked-lt p n)) (single-at n (p n)))
+    (λ (q : i < n). rw (single-over n i (p n) q) (or-no (hasBit (marked p n) i) ∙ marked-bit p n i q))
+
+-- for dependencies: some d below n in m has p
+pub marked-overlap : (p : ℕ → Bool) (m n : ℕ) → overlap m (marked p n) ≡ some (λ d. hasBit m d && p d) n
+marked-overlap p m n =
+    overlap-some m (marked p n) n (marked-lt p n)
+    ∙ some-as (λ d. hasBit m d && hasBit (marked p n) d) (λ d. hasBit m d && p d) n
+    (λ i l. ap (λ b. hasBit m i && b) (marked-bit p n i l))
+
+-- for dependents: s is in one of the sets f e with e below n
+pub union-bit : (f : ℕ → ℕ) (n s : ℕ) → hasBit (union f n) s ≡ some (λ e. hasBit (f e) s) n
+unfolding some
+union-bit f zero s = hasBit-none s
+union-bit f (suc n) s = hasBit-or (union f n) (f n) s ∙ ap (λ b. b || hasBit (f n) s) (union-bit f n s)
+
+-- the same where f e is a set that is kept where p holds at e
+pub union-kept : (p : ℕ → Bool) (m : ℕ → ℕ) (n s : ℕ) → hasBit (union (λ e. kept (p e) (m e)) n) s ≡ some (λ e. hasBit (m e) s && p e) n
+union-kept p m n s =
+    union-bit (λ e. kept (p e) (m e)) n s
+    ∙ some-as (λ e. hasBit (kept (p e) (m e)) s) (λ e. hasBit (m e) s && p e) n (λ e l. kept-bit (p e) (m e) s)
+
+from-none : (p : ℕ → Bool) (k i : ℕ) → ((j : ℕ) → p j ≡ false) → firstFrom p k i ≡ i + k
+from-none p zero i h = sym (add-zero i)
+from-none p (suc k) i h = rw (h i) (from-none p k (suc i) h ∙ s)
+  where
+    s : suc i + k ≡ i + suc k
+    s = omega arith
+
+-- the empty set has no lowest number
+pub first-empty : (m n : ℕ) → m ≡ 0 → n ≡ first (hasBit m) n
+unfolding first
+first-empty m n e = sym (from-none (hasBit m) n 0 (λ j. ap (λ a. hasBit a j) e ∙ hasBit-none j) ∙ zero-add n)
+
+-- the lowest number of the set of those at which p holds
+pub marked-first : (p : ℕ → Bool) (n : ℕ) → first (hasBit (marked p n)) n ≡ first p n
+marked-first p n = first-as (hasBit (marked p n)) p n (λ i l. marked-bit p n i l)
+
+-- `1 << i` in 64 bits
+pub shifted-one : (i : ℕ) (b : Bool) → i < 64 → b ≡ true → 1 * 2 ^ i % 2 ^ 64 ≡ single i b
+shifted-one i b l e = shl-exact 1 i 64 (omega arith) (omega arith) ∙ one-mul (2 ^ i) ∙ rw e
+
+three : (a b : ℕ) → (a ≡ b) ⊎ ((a < b) ⊎ (b < a))
+three zero zero = inl refl
+three zero (suc b) = inr (inl (omega arith))
+three (suc a) zero = inr (inr (omega arith))
+three (suc a) (suc b) =
+    either
+    (three a b)
+    (λ (q : a ≡ b). inl (ap suc q))
+    (λ o. either o (λ (q : a < b). inr (inl (omega arith))) (λ (q : b < a). inr (inr (omega arith))))
+
+-- the set of one number has no other
+pub single-only : (i s : ℕ) (b : Bool) → hasBit (single i b) s ≡ true → (s ≡ i) × (b ≡ true)
+single-only i s false e = absurd (false≢true (sym (hasBit-none s) ∙ e))
+single-only i s true e =
+    either
+    (three s i)
+    (λ (q : s ≡ i). (q, refl))
+    (λ o.
+    either
+    o
+    (λ (q : s < i). absurd (false≢true (sym (power-over i s q) ∙ e)))
+    (λ (q : i < s). absurd (false≢true (sym (hasBit-small (2 ^ i) s (pow-lt q)) ∙ e))))

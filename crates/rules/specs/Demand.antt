@@ -1,0 +1,277 @@
+-- Demand 3, one statement over every list of calls. What it rests on is listed at the end of this file.
+use Prim.Native.Nat.{ℕ, zero, suc, _+_, _*_, _≤_, _<_}
+use mathlib.Core.Logic.{_≢_}
+use mathlib.Core.Path.{_≡_}
+use mathlib.Core.Bool.{Bool, true, false, not, _&&_, _||_}
+use mathlib.Core.List.{List, [], _∷_, _++_}
+use lib.Dec.{eqb}
+use lib.ListN.{length, getD}
+use Rattle.base.specs.Folds.{listed}
+use Rattle.base.specs.Links.{Path}
+use Rattle.service.specs.declared.Phase.the-variants.{Down}
+use Rattle.service.specs.declared.Deadline.the-variants.{At}
+use Rattle.service.specs.declared.Action.{Action}
+use Rattle.service.specs.declared.Action.the-variants.{Quiet, Moved, Launch, StopCommand, Signal}
+use Rattle.service.specs.declared.State.{State}
+use Rattle.service.specs.declared.Table.{Table}
+use Rattle.service.specs.Limits.{maxServices}
+use Rattle.service.specs.Settings.{settingsAt}
+use Rattle.service.specs.Records.{recordAt, freshState, isEnding}
+use Rattle.service.specs.Numbers.{isQuiet, actionOf}
+use Rattle.rules.specs.declared.Rule.the-variants.{Lose, Abandon, Settle, Wake, Release, Begin, End, Expire}
+use Rattle.rules.specs.declared.Choice.{Choice}
+use Rattle.rules.specs.declared.Choice.the-variants.{Quiet as NoRule, Fit}
+use Rattle.rules.specs.Dependencies.{hardLinks}
+use Rattle.rules.specs.WellFormed.{tableFormed, formed}
+use Rattle.rules.specs.Rules.{chosen}
+use Rattle.rules.specs.Runs.{stateAfter, actionAfter}
+use Rattle.rules.specs.Calls.{Call, start, stop, clock, end, stopAll, next, query, run, Answer, refused, done, acted, ran, told, Outcome, outcome, afterCalls}
+
+-- ---- the calls with their answers, in order
+
+-- an action handed out, with whether it is a deadline's KILL; an accepted end of a service
+pub data Mark : Type 0 where
+  handed : Action → Bool → Mark
+  ended : ℕ → Mark
+
+-- "a deadline's KILL is rule 8's": told by the rules' state before the action
+abbrev pub killsBy : Choice → State → Bool
+killsBy NoRule x = false
+killsBy (Fit Lose s) x = false
+killsBy (Fit Abandon s) x = false
+killsBy (Fit Settle s) x = false
+killsBy (Fit Wake s) x = false
+killsBy (Fit Release s) x = false
+killsBy (Fit Begin s) x = false
+killsBy (Fit End s) x = false
+killsBy (Fit Expire s) x = isEnding (recordAt x s .phase)
+
+unfoldable pub deadlineKill : Table → State → Bool
+deadlineKill t x = killsBy (chosen t x) x
+
+-- a run's actions are read back from the places that it filled, one by one
+unfoldable pub readBack : Table → State → List ℕ → List ℕ → ℕ → List Mark
+readBack t x ss as′ n =
+    listed (λ i. handed (actionOf (getD ss i 0) (getD as′ i 0)) (deadlineKill t (stateAfter t x i))) n
+
+unfoldable pub marksOf : Table → State → Call → Answer → List ℕ → List ℕ → List Mark
+marksOf t x c (refused k) ss as′ = []
+marksOf t x c (acted a) ss as′ = handed a (deadlineKill t x) ∷ []
+marksOf t x c (ran n) ss as′ = readBack t x ss as′ n
+marksOf t x c (told d) ss as′ = []
+marksOf t x (start s) done ss as′ = []
+marksOf t x (stop s) done ss as′ = []
+marksOf t x (clock c) done ss as′ = []
+marksOf t x (end s good) done ss as′ = ended s ∷ []
+marksOf t x stopAll done ss as′ = []
+marksOf t x next done ss as′ = []
+marksOf t x query done ss as′ = []
+marksOf t x (run a b) done ss as′ = []
+
+unfoldable pub marks : Table → State → Call → List Mark
+marks t x c = marksOf t x c (outcome t x c .answer) (outcome t x c .services) (outcome t x c .actions)
+
+unfoldable pub story : Table → State → List Call → List Mark
+story t x [] = []
+story t x (c ∷ cs) = marks t x c ++ story t (outcome t x c .state) cs
+
+-- ---- the record: "a set of services, empty at first"
+
+abbrev pub Set : Type 0
+Set = ℕ → Bool
+
+abbrev pub nobody : Set
+nobody s = false
+
+abbrev pub with : ℕ → Set → Set
+with s v i = eqb i s || v i
+
+abbrev pub without : ℕ → Set → Set
+without s v i = not (eqb i s) && v i
+
+-- "a launch or stop command of s puts s in, an accepted end of s takes it out .. all else leave it"
+abbrev pub recorded : Mark → Set → Set
+recorded (handed Quiet k) v = v
+recorded (handed (Moved s) k) v = v
+recorded (handed (Launch s) k) v = with s v
+recorded (handed (StopCommand s) k) v = with s v
+recorded (handed (Signal s g) k) v = v
+recorded (ended s) v = without s v
+
+-- the services whose process was sent a deadline's KILL in its life, from its launch or stop command to its end
+abbrev pub sent : Mark → Set → Set
+sent (handed Quiet k) v = v
+sent (handed (Moved s) k) v = v
+sent (handed (Launch s) k) v = without s v
+sent (handed (StopCommand s) k) v = without s v
+sent (handed (Signal s g) true) v = with s v
+sent (handed (Signal s g) false) v = v
+sent (ended s) v = without s v
+
+unfoldable pub fed : (Mark → Set → Set) → List Mark → Set → Set
+fed f [] v = v
+fed f (m ∷ ms) v = fed f ms (f m v)
+
+-- ---- first half: whenever a launch, a signal or a stop command is handed out for s
+
+abbrev pub ActsOn : Action → ℕ → Type 0
+ActsOn Quiet s = ⊥
+ActsOn (Moved i) s = ⊥
+ActsOn (Launch i) s = i ≡ s
+ActsOn (StopCommand i) s = i ≡ s
+ActsOn (Signal i g) s = i ≡ s
+
+-- "no service that hard-depends on it, directly or through others, has a live process, by the record"
+abbrev pub Clear : Table → Set → Mark → Type 0
+Clear t v (handed a k) = (s e : ℕ) → ActsOn a s → e < t .count → Path (hardLinks t) e s → v e ≡ false
+Clear t v (ended s) = Unit {0}
+
+unfoldable pub Safe : Table → Set → List Mark → Type 0
+Safe t v [] = Unit {0}
+Safe t v (m ∷ ms) = Clear t v m × Safe t (recorded m v) ms
+
+-- ---- second half: at most 4n actions before quiet, where no event falls between
+
+abbrev pub isRefused : Answer → Bool
+isRefused (refused k) = true
+isRefused done = false
+isRefused (acted a) = false
+isRefused (ran n) = false
+isRefused (told d) = false
+
+abbrev pub isEvent : Call → Bool
+isEvent (start s) = true
+isEvent (stop s) = true
+isEvent (clock c) = true
+isEvent (end s good) = true
+isEvent stopAll = true
+isEvent next = false
+isEvent query = false
+isEvent (run ss as′) = false
+
+abbrev pub isStart : Call → Bool
+isStart (start s) = true
+isStart (stop s) = false
+isStart (clock c) = false
+isStart (end s good) = false
+isStart stopAll = false
+isStart next = false
+isStart query = false
+isStart (run ss as′) = false
+
+unfoldable pub accepted : Table → State → Call → Bool
+accepted t x c = not (isRefused (outcome t x c .answer))
+
+-- no accepted event stands among the calls
+unfoldable pub eventless : Table → State → List Call → Bool
+eventless t x [] = true
+eventless t x (c ∷ cs) = not (isEvent c && accepted t x c) && eventless t (outcome t x c .state) cs
+
+-- the actions among the marks, mere moves counted
+abbrev pub isAction : Mark → ℕ
+isAction (handed Quiet k) = 0
+isAction (handed (Moved s) k) = 1
+isAction (handed (Launch s) k) = 1
+isAction (handed (StopCommand s) k) = 1
+isAction (handed (Signal s g) k) = 1
+isAction (ended s) = 0
+
+unfoldable pub actionsIn : List Mark → ℕ
+actionsIn [] = 0
+actionsIn (m ∷ ms) = isAction m + actionsIn ms
+
+-- from the state x: at most 4n actions come along any calls with no accepted event among them, and quiet comes
+pub record Rests (t : Table) (x : State) : Type 0 where
+  pub few : (cs : List Call) → eventless t x cs ≡ true → actionsIn (story t x cs) ≤ 4 * t .count
+  pub quiet : (k : ℕ) × (k ≤ 4 * t .count) × (actionAfter t x k ≡ Quiet)
+
+-- ---- second half: the rounds
+
+-- where a list has come to: the state, the record, and who was sent a deadline's KILL
+pub record Now : Type 0 where
+  pub state : State
+  pub live : Set
+  pub sentKill : Set
+
+abbrev pub freshNow : Now
+freshNow = record { state = freshState; live = nobody; sentKill = nobody }
+
+unfoldable pub nowAfter : Table → Now → Call → Now
+nowAfter t n c = record {
+  state = outcome t (n .state) c .state;
+  live = fed recorded (marks t (n .state) c) (n .live);
+  sentKill = fed sent (marks t (n .state) c) (n .sentKill);
+}
+
+-- calls, none of them an accepted start, and where they lead
+pub data Stretch (t : Table) : Now → List Call → Now → Type 0 where
+  stay : {n : Now} → Stretch t n [] n
+  go : {n n′ : Now} {cs : List Call} (c : Call) → (isStart c && accepted t (n .state) c) ≡ false
+      → Stretch t (nowAfter t n c) cs n′ → Stretch t n (c ∷ cs) n′
+
+-- "Actions go to quiet by an accepted run, or singly with no event between": the last answer is quiet
+pub data ToQuiet (t : Table) : Now → List Call → Now → Type 0 where
+  by-run : {n : Now} (ss as′ : List ℕ) → accepted t (n .state) (run ss as′) ≡ true
+      → ToQuiet t n (run ss as′ ∷ []) (nowAfter t n (run ss as′))
+  singly : {n n′ : Now} {cs : List Call} → Stretch t n cs n′ → eventless t (n .state) cs ≡ true
+      → outcome t (n′ .state) next .answer ≡ acted Quiet → ToQuiet t n (cs ++ (next ∷ [])) (nowAfter t n′ next)
+
+-- an accepted end of s stands among the calls
+pub data Reported (t : Table) (s : ℕ) : Now → List Call → Type 0 where
+  here : {n : Now} {cs : List Call} (good : Bool) → accepted t (n .state) (end s good) ≡ true → Reported t s n (end s good ∷ cs)
+  there : {n : Now} {cs : List Call} (c : Call) → Reported t s (nowAfter t n c) cs → Reported t s n (c ∷ cs)
+
+-- "an accepted clock reading is at or past every pending deadline, actions are taken to quiet, the end of each live
+-- process that was sent a deadline's KILL is reported, and actions are taken to quiet"; other calls may stand between
+pub data Round (t : Table) : Now → List Call → Now → Type 0 where
+  round : {n n1 n2 n3 n4 n5 : Now} {a b q d q′ : List Call} (c : ℕ)
+      → Stretch t n a n1
+      → accepted t (n1 .state) (clock c) ≡ true
+      → ((s e : ℕ) → s < t .count → recordAt (n1 .state) s .deadline ≡ At e → e ≤ c)
+      → Stretch t (nowAfter t n1 (clock c)) b n2
+      → ToQuiet t n2 q n3
+      → Stretch t n3 d n4
+      → ((s : ℕ) → s < t .count → n3 .live s ≡ true → n3 .sentKill s ≡ true → Reported t s n3 d)
+      → ToQuiet t n4 q′ n5
+      → Round t n (a ++ (clock c ∷ (b ++ (q ++ (d ++ q′))))) n5
+
+-- "each begun after the one before has ended"
+pub data Rounds (t : Table) : ℕ → Now → List Call → Now → Type 0 where
+  none : {n : Now} → Rounds t 0 n [] n
+  more : {k : ℕ} {n n′ n″ : Now} {cs ds : List Call} → Rounds t k n cs n′ → Round t n′ ds n″ → Rounds t (suc k) n (cs ++ ds) n″
+
+unfoldable pub nowAt : Table → Now → List Call → Now
+nowAt t n [] = n
+nowAt t n (c ∷ cs) = nowAt t (nowAfter t n c) cs
+
+-- in the whole list a stop all has no accepted start after it, and n + 1 rounds follow it
+pub data WoundDown (t : Table) : List Call → Type 0 where
+  wound : {n n′ : Now} (before rounds after : List Call)
+      → Rounds t (suc (t .count)) (nowAfter t (nowAt t freshNow before) stopAll) rounds n → Stretch t n after n′
+      → WoundDown t (before ++ (stopAll ∷ (rounds ++ after)))
+
+-- "no timeout is zero"
+abbrev pub NoZeroTimeout : Table → Type 0
+NoZeroTimeout t =
+    (s : ℕ) → s < t .count → (settingsAt t s .«start_timeout» ≢ 0) × (settingsAt t s .«stop_timeout» ≢ 0)
+
+-- ---- THE STATEMENT
+
+pub record Holds (t : Table) (cs : List Call) : Type 0 where
+  pub safe : Safe t nobody (story t freshState cs)
+  pub rests : Rests t (afterCalls t freshState cs)
+  pub down : NoZeroTimeout t → WoundDown t cs → (s : ℕ) → s < t .count → recordAt (afterCalls t freshState cs) s .phase ≡ Down
+
+-- for every table that passes list 24's part on tables, and every list of calls from the fresh state
+abbrev pub Demand3 : Type 0
+Demand3 = (t : Table) → tableFormed t ≡ true → (cs : List Call) → Holds t cs
+
+-- ---- beside it
+
+-- "4n holds of every state that passes 24": the state is an array of as many records as a table has places
+abbrev pub RestsEverywhere : Type 0
+RestsEverywhere = (t : Table) (x : State) → length (x .records) ≡ maxServices → formed t x ≡ true → Rests t x
+
+-- every state that a list reaches passes 24, so that a refusal is always the caller's fault
+abbrev pub AlwaysFormed : Type 0
+AlwaysFormed = (t : Table) → tableFormed t ≡ true → (cs : List Call) → formed t (afterCalls t freshState cs) ≡ true

@@ -1,0 +1,9 @@
+pub mod Dependencies
+pub mod WellFormed
+pub mod Settling
+pub mod Events
+pub mod Rules
+pub mod Runs
+pub mod Calls
+pub mod Demand
+pub mod Worked

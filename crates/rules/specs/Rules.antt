@@ -1,0 +1,252 @@
+-- "Next action": rules 1 to 8. Each is three functions: whom it fits, the record it leaves, and what it hands out.
+use Prim.Native.Nat.{ℕ, _+_}
+use mathlib.Core.Bool.{Bool, true, false, not, _&&_, _||_}
+use mathlib.Core.List.{List, [], _∷_}
+use lib.Dec.{leb, ltb, eqb}
+use Rattle.base.specs.Folds.{pick, implies, some, every, first}
+use Rattle.service.specs.declared.Kind.{Kind}
+use Rattle.service.specs.declared.Kind.the-variants.{Process, Scripted, Internal}
+use Rattle.service.specs.declared.Signal.{Signal as SignalName}
+use Rattle.service.specs.declared.Signal.the-variants.{None as NoSignal, Hup, Int, Term, Quit, Usr1, Usr2, Kill}
+use Rattle.service.specs.declared.Phase.{Phase}
+use Rattle.service.specs.declared.Phase.the-variants.{Down, Waiting, Starting, Up, Ending}
+use Rattle.service.specs.declared.Cause.{Cause}
+use Rattle.service.specs.declared.Cause.the-variants.{None as NoCause, User, Released, Fell, Failed}
+use Rattle.service.specs.declared.Deadline.{Deadline}
+use Rattle.service.specs.declared.Deadline.the-variants.{None as NoDeadline, At}
+use Rattle.service.specs.declared.Action.{Action}
+use Rattle.service.specs.declared.Action.the-variants.{Quiet, Moved, Launch, StopCommand, Signal}
+use Rattle.service.specs.declared.Settings.{Settings}
+use Rattle.service.specs.declared.Record.{Record}
+use Rattle.service.specs.declared.State.{State}
+use Rattle.service.specs.declared.Table.{Table}
+use Rattle.service.specs.declared.Step.{Step}
+use Rattle.service.specs.Settings.{settingsAt}
+use Rattle.service.specs.Records.{recordAt, withRecord, isDown, isWaiting, isStarting, isUp, isEnding, isNone, isUser}
+use Rattle.rules.specs.declared.Rule.{Rule}
+use Rattle.rules.specs.declared.Rule.the-variants.{Lose, Abandon, Settle, Wake, Release, Begin, End, Expire}
+use Rattle.rules.specs.declared.Choice.{Choice}
+use Rattle.rules.specs.declared.Choice.the-variants.{Quiet as NoRule, Fit}
+use Rattle.rules.specs.Dependencies.{hard, strong, soft, depends, serving, closing, barred, blocked, needed}
+use Rattle.rules.specs.Settling.{settled}
+use Rattle.rules.specs.Events.{withCause}
+
+-- ---- words of the rules
+
+-- starting or up, with no cause
+abbrev pub running : Record → Bool
+running r = (isStarting (r .phase) || isUp (r .phase)) && isNone (r .cause)
+
+-- "nothing to end (dead process, internal, scripted without stop-command)"
+abbrev pub nothingToEnd : Kind → Bool → Bool → Bool
+nothingToEnd Process hasStop live = not live
+nothingToEnd Scripted hasStop live = not hasStop
+nothingToEnd Internal hasStop live = true
+
+-- the clock is at or past a deadline
+unfoldable pub due : ℕ → Deadline → Bool
+due now NoDeadline = false
+due now (At d) = leb d now
+
+-- "Deadline = clock + timeout; none if 0"
+abbrev pub deadlineIn : ℕ → ℕ → Deadline
+deadlineIn now timeout = pick (eqb timeout 0) NoDeadline (At (now + timeout))
+
+-- ---- whom a rule fits
+
+unfoldable pub fits : Rule → Table → State → ℕ → Bool
+fits Lose t x s = running (recordAt x s) && some (λ d. hard t s d && not (serving (recordAt x d))) (t .count)
+fits Abandon t x s = isWaiting (recordAt x s .phase) && some (λ d. strong t s d && barred (recordAt x d)) (t .count)
+fits Settle t x s =
+    closing (recordAt x s) && not (blocked t x s)
+    && nothingToEnd (settingsAt t s .kind) (settingsAt t s .«has_stop») (recordAt x s .live)
+fits Wake t x s =
+    isDown (recordAt x s .phase) && not (recordAt x s .aside)
+    && (recordAt x s .wanted || some (λ e. depends t e s && isWaiting (recordAt x e .phase)) (t .count))
+fits Release t x s =
+    (isWaiting (recordAt x s .phase) || isStarting (recordAt x s .phase) || isUp (recordAt x s .phase))
+    && isNone (recordAt x s .cause) && not (needed t x s)
+fits Begin t x s =
+    isWaiting (recordAt x s .phase) && leb (recordAt x s .«not_before») (x .clock)
+    && every (λ d. implies (strong t s d) (serving (recordAt x d))) (t .count)
+    && every (λ d. implies (soft t s d) (serving (recordAt x d) || barred (recordAt x d))) (t .count)
+fits End t x s = closing (recordAt x s) && not (blocked t x s)
+fits Expire t x s =
+    due (x .clock) (recordAt x s .deadline)
+    && (isStarting (recordAt x s .phase) || isEnding (recordAt x s .phase) && not (recordAt x s .killed))
+
+-- ---- the record it leaves
+
+-- rule 1: "cause user if one such has user, else fell"
+unfoldable pub lostToUser : Table → State → ℕ → Bool
+lostToUser t x s =
+    some (λ d. hard t s d && (not (serving (recordAt x d)) && isUser (recordAt x d .cause))) (t .count)
+
+-- rules 2 and 4
+abbrev pub abandoned : Record → Record
+abandoned r = record {
+  phase = Down;
+  wanted = false;
+  aside = true;
+  live = r .live;
+  cause = r .cause;
+  deadline = r .deadline;
+  killed = r .killed;
+  «not_before» = r .«not_before»;
+  «last_launch» = r .«last_launch»;
+  «window_start» = r .«window_start»;
+  restarts = r .restarts;
+}
+
+abbrev pub withPhase : Phase → Record → Record
+withPhase p r = record {
+  phase = p;
+  wanted = r .wanted;
+  aside = r .aside;
+  live = r .live;
+  cause = r .cause;
+  deadline = r .deadline;
+  killed = r .killed;
+  «not_before» = r .«not_before»;
+  «last_launch» = r .«last_launch»;
+  «window_start» = r .«window_start»;
+  restarts = r .restarts;
+}
+
+-- rule 5: "waiting goes down; else cause released"
+abbrev pub released : Record → Record
+released r =
+    withCause (pick (isWaiting (r .phase)) (r .cause) Released) (withPhase (pick (isWaiting (r .phase)) Down (r .phase)) r)
+
+-- rule 6, by type
+abbrev pub begunPhase : Kind → Phase
+begunPhase Process = Up
+begunPhase Scripted = Starting
+begunPhase Internal = Up
+
+abbrev pub begunLive : Kind → Bool → Bool
+begunLive Process live = true
+begunLive Scripted live = true
+begunLive Internal live = live
+
+abbrev pub begunDeadline : Kind → Deadline → Deadline → Deadline
+begunDeadline Process new old = old
+begunDeadline Scripted new old = new
+begunDeadline Internal new old = old
+
+abbrev pub begun : Settings → ℕ → Record → Record
+begun v now r = record {
+  phase = begunPhase (v .kind);
+  wanted = r .wanted;
+  aside = r .aside;
+  live = begunLive (v .kind) (r .live);
+  cause = r .cause;
+  deadline = begunDeadline (v .kind) (deadlineIn now (v .«start_timeout»)) (r .deadline);
+  killed = r .killed;
+  «not_before» = r .«not_before»;
+  «last_launch» = now;
+  «window_start» = r .«window_start»;
+  restarts = r .restarts;
+}
+
+-- rule 7: "ending, live, stop deadline"
+abbrev pub ending : Settings → ℕ → Record → Record
+ending v now r = record {
+  phase = Ending;
+  wanted = r .wanted;
+  aside = r .aside;
+  live = true;
+  cause = r .cause;
+  deadline = deadlineIn now (v .«stop_timeout»);
+  killed = r .killed;
+  «not_before» = r .«not_before»;
+  «last_launch» = r .«last_launch»;
+  «window_start» = r .«window_start»;
+  restarts = r .restarts;
+}
+
+-- rule 8: "ending, cause failed unless user, stop deadline" where it was starting, and else "killed"
+abbrev pub expired : Bool → Settings → ℕ → Record → Record
+expired starting v now r = record {
+  phase = Ending;
+  wanted = r .wanted;
+  aside = r .aside;
+  live = r .live;
+  cause = pick starting (pick (isUser (r .cause)) User Failed) (r .cause);
+  deadline = pick starting (deadlineIn now (v .«stop_timeout»)) (r .deadline);
+  killed = pick starting (r .killed) true;
+  «not_before» = r .«not_before»;
+  «last_launch» = r .«last_launch»;
+  «window_start» = r .«window_start»;
+  restarts = r .restarts;
+}
+
+unfoldable pub leaves : Rule → Table → State → ℕ → Record
+leaves Lose t x s = withCause (pick (lostToUser t x s) User Fell) (recordAt x s)
+leaves Abandon t x s = abandoned (recordAt x s)
+leaves Settle t x s = settled (settingsAt t s) (x .clock) (recordAt x s)
+leaves Wake t x s = withPhase Waiting (recordAt x s)
+leaves Release t x s = released (recordAt x s)
+leaves Begin t x s = begun (settingsAt t s) (x .clock) (recordAt x s)
+leaves End t x s = ending (settingsAt t s) (x .clock) (recordAt x s)
+leaves Expire t x s = expired (isStarting (recordAt x s .phase)) (settingsAt t s) (x .clock) (recordAt x s)
+
+-- ---- what it hands out
+
+-- rule 6: "Internal: up, moved. Process: up, live, launch. Scripted: starting, live, launch"
+abbrev pub begunAction : Kind → ℕ → Action
+begunAction Process s = Launch s
+begunAction Scripted s = Launch s
+begunAction Internal s = Moved s
+
+-- rule 7: "process, its term signal; scripted, run stop-command"; "(Signal none: moved.)"
+abbrev pub termAction : SignalName → ℕ → Action
+termAction NoSignal s = Moved s
+termAction Hup s = Signal s Hup
+termAction Int s = Signal s Int
+termAction Term s = Signal s Term
+termAction Quit s = Signal s Quit
+termAction Usr1 s = Signal s Usr1
+termAction Usr2 s = Signal s Usr2
+termAction Kill s = Signal s Kill
+
+abbrev pub endAction : Kind → SignalName → ℕ → Action
+endAction Process g s = termAction g s
+endAction Scripted g s = StopCommand s
+endAction Internal g s = Moved s
+
+unfoldable pub hands : Rule → Table → State → ℕ → Action
+hands Lose t x s = Moved s
+hands Abandon t x s = Moved s
+hands Settle t x s = Moved s
+hands Wake t x s = Moved s
+hands Release t x s = Moved s
+hands Begin t x s = begunAction (settingsAt t s .kind) s
+hands End t x s = endAction (settingsAt t s .kind) (settingsAt t s .signal) s
+hands Expire t x s = pick (isStarting (recordAt x s .phase)) (Signal s Int) (Signal s Kill)
+
+-- ---- the next action
+
+abbrev pub rules : List Rule
+rules = Lose ∷ Abandon ∷ Settle ∷ Wake ∷ Release ∷ Begin ∷ End ∷ Expire ∷ []
+
+-- "the first rule below with any service it fits, lowest service first"
+unfoldable pub chosenFrom : List Rule → Table → State → Choice
+chosenFrom [] t x = NoRule
+chosenFrom (k ∷ ks) t x =
+    let later = chosenFrom ks t x in
+    pick (ltb (first (fits k t x) (t .count)) (t .count)) (Fit k (first (fits k t x) (t .count))) later
+
+unfoldable pub chosen : Table → State → Choice
+chosen t x = chosenFrom rules t x
+
+unfoldable pub act : Rule → Table → State → ℕ → Step
+act k t x s = record { action = hands k t x s; state = withRecord x s (leaves k t x s) }
+
+-- "Quiet" where no rule fits
+unfoldable pub actOn : Choice → Table → State → Step
+actOn NoRule t x = record { action = Quiet; state = x }
+actOn (Fit k s) t x = act k t x s
+
+unfoldable pub nextAction : Table → State → Step
+nextAction t x = actOn (chosen t x) t x

@@ -1,0 +1,4 @@
+pub mod Limits
+pub mod Settings
+pub mod Records
+pub mod Numbers

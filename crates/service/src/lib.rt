@@ -1,0 +1,231 @@
+// What a service is: its settings and the table of all services, its record and the state, the actions and the answers.
+ghost use mathlib.Core.Path.{_≡_};
+ghost use Rattle.service.specs.Settings.{defaultSettings, noServices};
+ghost use Rattle.service.specs.Records.{freshRecord, freshState};
+
+// The most services that a set may have.
+pub const MAX_SERVICES: usize = 32;
+
+// Paper 01's types.
+pub enum Kind {
+    Process,
+    Scripted,
+    Internal,
+}
+
+// What term-signal names, in paper 01's order; none sends nothing.
+pub enum Signal {
+    None,
+    Hup,
+    Int,
+    Term,
+    Quit,
+    Usr1,
+    Usr2,
+    Kill,
+}
+
+// A service's settings. Times are in units of 0.1 ms; a dependency set has bit d for service d.
+pub struct Settings {
+    pub kind: Kind,
+    pub restart: bool,
+    pub has_stop: bool,
+    pub signal: Signal,
+    pub delay: u64,
+    pub interval: u64,
+    pub limit: u64,
+    pub start_timeout: u64,
+    pub stop_timeout: u64,
+    pub hard: u64,
+    pub milestone: u64,
+    pub soft: u64,
+}
+
+pub struct Table {
+    pub count: usize,
+    pub services: [Settings; MAX_SERVICES],
+}
+
+pub enum Phase {
+    Down,
+    Waiting,
+    Starting,
+    Up,
+    Ending,
+}
+
+// Why a service is to end.
+pub enum Cause {
+    None,
+    User,
+    Released,
+    Fell,
+    Failed,
+}
+
+// None is no deadline, and not the time 0.
+pub enum Deadline {
+    None,
+    At(u64),
+}
+
+pub struct Record {
+    pub phase: Phase,
+    pub wanted: bool,
+    pub aside: bool,
+    pub live: bool,
+    pub cause: Cause,
+    pub deadline: Deadline,
+    pub killed: bool,
+    pub not_before: u64,
+    pub last_launch: u64,
+    pub window_start: u64,
+    pub restarts: u64,
+}
+
+pub struct State {
+    pub clock: u64,
+    pub records: [Record; MAX_SERVICES],
+}
+
+// What the host is handed. Moved tells a change with no outside act.
+pub enum Action {
+    Quiet,
+    Moved(usize),
+    Launch(usize),
+    StopCommand(usize),
+    Signal(usize, Signal),
+}
+
+// Why a call of the engine is refused: 24, 20, 21, 22, 23 and 25 of paper 01.
+pub enum Refusal {
+    IllFormed,
+    NoService,
+    NotLive,
+    ClockBack,
+    ClockPast,
+    NoRoom,
+}
+
+// The answer to an event.
+pub enum EventAnswer {
+    Done,
+    Refused(Refusal),
+}
+
+// The answer to a request for the next action.
+pub enum ActionAnswer {
+    Act(Action),
+    Refused(Refusal),
+}
+
+// The answer to a run to quiet: how many actions were handed out.
+pub enum RunAnswer {
+    Ran(usize),
+    Refused(Refusal),
+}
+
+// The answer to a query: the earliest time at which a service may have something to do, if any.
+pub enum QueryAnswer {
+    Earliest(Deadline),
+    Refused(Refusal),
+}
+
+// The next action by the rules, and the state that it leaves.
+pub struct Step {
+    pub action: Action,
+    pub state: State,
+}
+
+// What each kind of call gives back: its answer beside the state, since an enum holds no array.
+pub struct Changed {
+    pub answer: EventAnswer,
+    pub state: State,
+}
+
+pub struct Stepped {
+    pub answer: ActionAnswer,
+    pub state: State,
+}
+
+pub struct Ran {
+    pub answer: RunAnswer,
+    pub state: State,
+}
+
+impl Settings {
+    pub const RESTART_DELAY: u64 = 2000;
+
+    pub const RESTART_LIMIT_INTERVAL: u64 = 100000;
+
+    pub const RESTART_LIMIT_COUNT: u64 = 3;
+
+    pub const START_TIMEOUT: u64 = 600000;
+
+    pub const STOP_TIMEOUT: u64 = 100000;
+
+    // An internal service with the default settings, no dependencies and no commands.
+    pub fn default() -> Settings
+        ensures { λ r. ⌜ r ≡ defaultSettings ⌝ }
+    {
+        Settings {
+            kind: Kind::Internal,
+            restart: false,
+            has_stop: false,
+            signal: Signal::Term,
+            delay: Settings::RESTART_DELAY,
+            interval: Settings::RESTART_LIMIT_INTERVAL,
+            limit: Settings::RESTART_LIMIT_COUNT,
+            start_timeout: Settings::START_TIMEOUT,
+            stop_timeout: Settings::STOP_TIMEOUT,
+            hard: 0,
+            milestone: 0,
+            soft: 0,
+        }
+    }
+}
+
+impl Table {
+    // The table of no services.
+    pub fn empty() -> Table
+        ensures { λ t. ⌜ t ≡ noServices ⌝ }
+    {
+        let v = Settings::default();
+        Table {
+            count: 0,
+            services: [v; MAX_SERVICES],
+        }
+    }
+}
+
+impl Record {
+    pub fn fresh() -> Record
+        ensures { λ r. ⌜ r ≡ freshRecord ⌝ }
+    {
+        Record {
+            phase: Phase::Down,
+            wanted: false,
+            aside: false,
+            live: false,
+            cause: Cause::None,
+            deadline: Deadline::None,
+            killed: false,
+            not_before: 0,
+            last_launch: 0,
+            window_start: 0,
+            restarts: 0,
+        }
+    }
+}
+
+impl State {
+    pub fn fresh() -> State
+        ensures { λ x. ⌜ x ≡ freshState ⌝ }
+    {
+        let r = Record::fresh();
+        State {
+            clock: 0,
+            records: [r; MAX_SERVICES],
+        }
+    }
+}
