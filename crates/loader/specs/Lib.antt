@@ -1,0 +1,7 @@
+pub mod Parts
+pub mod Checks
+pub mod Texts
+pub mod Links
+pub mod Tokens
+pub mod Load
+pub mod Examples
