@@ -3,8 +3,9 @@ use Prim.Native.Nat.{ℕ, _+_}
 use mathlib.Core.Bool.{Bool, true, false, not, _||_}
 use mathlib.Core.List.{List, [], _∷_}
 use lib.Dec.{eqb, leb}
-use lib.ListN.{length, getD, take, drop}
+use lib.ListN.{length, getD, drop}
 use Rattle.base.specs.Folds.{pick}
+use Rattle.text.specs.Strings.{partOf}
 use Rattle.text.specs.Bytes.{isWhite, isNewline, isBad, isPropertyByte, isSign, run}
 use Rattle.text.specs.declared.Fault.{Fault}
 use Rattle.text.specs.declared.Verdict.{Verdict}
@@ -42,7 +43,7 @@ lineFrom k (b ∷ bs) = lineFrom (pick (isNewline b) (k + 1) k) bs
 
 -- the line of the byte at an offset
 unfoldable pub lineNumber : List ℕ → ℕ → ℕ
-lineNumber text at = lineFrom 1 (take at text)
+lineNumber text at = lineFrom 1 (partOf text 0 at)
 
 -- "A line of white space only, or whose first other byte is `#`, says nothing"; a is the length of the leading white space
 abbrev pub saysNothing : List ℕ → ℕ → Bool
