@@ -49,6 +49,8 @@ pub struct Order {
     pub kinds: Vec<CaseKind>,
     pub seed: u64,
     pub count: u64,
+    /// Only names the case that differs.
+    pub brief: bool,
 }
 
 /// How a program came to its end. The exit status is not looked at.
@@ -185,7 +187,10 @@ pub fn compare(programs: &Programs, order: &Order) -> io::Result<bool> {
         let outcomes = workshop.outcomes(pair, &case)?;
         compared += 1;
         if outcomes[0] != outcomes[1] {
-            show_difference(&workshop, pair, &name, &case, &outcomes);
+            println!("difference in {name}");
+            if !order.brief {
+                show_difference(&workshop, pair, &case, &outcomes);
+            }
             println!("compared {compared} cases ({} fixed), a difference", fixed.min(compared));
             return Ok(false);
         }
@@ -205,11 +210,9 @@ fn is_of_kind(case: &Case, kind: CaseKind) -> bool {
 fn show_difference(
     workshop: &Workshop,
     programs: &[PathBuf; 2],
-    name: &str,
     case: &Case,
     outcomes: &[Outcome; 2],
 ) {
-    println!("difference in {name}");
     show_case(case, outcomes);
     let small = made_small(workshop, programs, case);
     if let Ok(outcomes) = workshop.outcomes(programs, &small) {

@@ -13,4 +13,5 @@ pub mod program;
 pub mod random;
 pub mod reduce;
 pub mod scenario;
+pub mod search;
 pub mod text;

@@ -6,7 +6,7 @@ use std::path::{Path, PathBuf};
 use std::process::ExitCode;
 
 const USAGE: &str = "\
-usage: compare [--kind sets|scenarios|folders|all] [--seed S] [--count N] PROGRAM PROGRAM
+usage: compare [--brief] [--kind sets|scenarios|folders|all] [--seed S] [--count N] A B
 sets and scenarios take two programs `simulate`, folders two `check_services`;
 all takes two folders that hold both, or SIMULATE SIMULATE CHECK CHECK";
 
@@ -25,13 +25,17 @@ fn main() -> ExitCode {
 
 fn asked() -> Result<(Programs, Order), String> {
     let usage = || USAGE.to_string();
-    let mut order = Order { kinds: CaseKind::ALL.to_vec(), seed: 1, count: 1_000 };
+    let mut order = Order { kinds: CaseKind::ALL.to_vec(), seed: 1, count: 1_000, brief: false };
     let mut paths: Vec<PathBuf> = Vec::new();
     let mut words = std::env::args().skip(1);
     while let Some(word) = words.next() {
         if !word.starts_with("--") {
             let path = Path::new(&word).canonicalize();
             paths.push(path.map_err(|error| format!("{word}: {error}"))?);
+            continue;
+        }
+        if word == "--brief" {
+            order.brief = true;
             continue;
         }
         let value = words.next().ok_or_else(usage)?;

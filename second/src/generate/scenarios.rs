@@ -12,7 +12,7 @@ use crate::random::Random;
 pub fn load_set(random: &mut Random, builder: &mut Builder) {
     let size = set_size(random);
     let odd_times = random.one_in(8);
-    let manner = Manner { odd_names: false, odd_times, unused_settings: true };
+    let manner = Manner { odd_names: false, odd_times, unused_settings: true, zero_timeouts: true };
     for sketch in sketch_set(random, size, manner) {
         builder.service(random, &plain_text(&sketch));
     }

@@ -12,7 +12,7 @@ const DAMAGES: [u64; 16] = [1, 3, 4, 5, 6, 7, 8, 9, 10, 11, 12, 13, 14, 15, 16, 
 /// A set as it is handed over, damaged or not.
 pub fn given_set(random: &mut Random) -> Vec<Given> {
     let size = if random.one_in(60) { 0 } else { set_size(random) };
-    let manner = Manner { odd_names: true, odd_times: true, unused_settings: true };
+    let manner = Manner { odd_names: true, odd_times: true, unused_settings: true, zero_timeouts: true };
     let sketches = sketch_set(random, size, manner);
     let plain = random.one_in(4);
     let mut set: Vec<Given> = Vec::new();

@@ -32,6 +32,8 @@ pub struct Manner {
     pub odd_times: bool,
     /// Settings that don't apply to the type too.
     pub unused_settings: bool,
+    /// Timeouts of 0 among the times; without them, none is 0.
+    pub zero_timeouts: bool,
 }
 
 /// The number of services of a set: mostly few.
@@ -100,7 +102,12 @@ fn sketch_settings(random: &mut Random, manner: Manner) -> Vec<Setting> {
     }
     for property in ["restart-delay", "restart-limit-interval", "start-timeout", "stop-timeout"] {
         if random.one_in(2) {
-            let time = if manner.odd_times { odd_time(random) } else { short_time(random) };
+            let mut time = if manner.odd_times { odd_time(random) } else { short_time(random) };
+            let is_timeout = property.ends_with("timeout");
+            let is_zero = time.bytes().all(|byte| byte == b'0' || byte == b'.');
+            if is_timeout && is_zero && !manner.zero_timeouts {
+                time = "0.0001".to_string();
+            }
             settings.push(Setting::word(property, &time));
         }
     }

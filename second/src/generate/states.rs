@@ -32,7 +32,8 @@ pub fn random_state(random: &mut Random, table: &Table) -> State {
     state
 }
 
-fn random_record(
+/// A record of any of the phases, flags and times that list 24 passes.
+pub fn random_record(
     random: &mut Random,
     service: &Service,
     clock: u64,
@@ -112,19 +113,26 @@ fn put_dependencies(random: &mut Random, builder: &mut Builder, count: u64) {
     }
 }
 
-/// A state that no list of calls need reach, and calls from there.
-pub fn free_state_case(random: &mut Random) -> Vec<u8> {
+/// A loaded set, whose count and dependencies are sometimes others than any
+/// texts give: more than 16 of one service, internal services up to 32.
+pub fn free_table(random: &mut Random) -> Builder {
     let mut builder = Builder::new();
     load_set(random, &mut builder);
     if random.one_in(3) {
-        let count = match random.below(3) {
+        let count = match random.below(6) {
             0 => 32,
-            _ => random.between(1, 12),
+            _ => random.between(1, 10),
         };
         builder.push(&format!("table count {count}"));
         put_dependencies(random, &mut builder, count);
-        builder.push("show");
     }
+    builder
+}
+
+/// A state that no list of calls need reach, and calls from there.
+pub fn free_state_case(random: &mut Random) -> Vec<u8> {
+    let mut builder = free_table(random);
+    builder.push("show");
     for _ in 0..random.between(1, 6) {
         let Some(loaded) = builder.loaded() else {
             break;
