@@ -205,8 +205,8 @@ nowAfter t n c = record {
 
 -- calls, none of them an accepted start, and where they lead
 pub data Stretch (t : Table) : Now → List Call → Now → Type 0 where
-  stay : {n : Now} → Stretch t n [] n
-  go : {n n′ : Now} {cs : List Call} (c : Call) → (isStart c && accepted t (n .state) c) ≡ false
+  empty : {n : Now} → Stretch t n [] n
+  call : {n n′ : Now} {cs : List Call} (c : Call) → (isStart c && accepted t (n .state) c) ≡ false
       → Stretch t (nowAfter t n c) cs n′ → Stretch t n (c ∷ cs) n′
 
 -- "Actions go to quiet by an accepted run, or singly with no event between": the last answer is quiet

@@ -1,0 +1,6 @@
+pub mod Shapes
+pub mod Links
+pub mod Fitting
+pub mod Along
+pub mod Next
+pub mod Each
