@@ -150,11 +150,15 @@ impl Workshop {
     }
 
     fn differs(&self, programs: &[PathBuf; 2], case: &Case) -> bool {
-        match self.outcomes(programs, case) {
-            Ok([first, second]) => first != second,
-            Err(_) => false,
-        }
+        self.outcomes(programs, case).is_ok_and(|outcomes| !agree(&outcomes))
     }
+}
+
+/// The same output, and both programs came to their end by themselves: a fault
+/// or a hang is a difference even where both have it.
+fn agree(outcomes: &[Outcome; 2]) -> bool {
+    outcomes[0].output == outcomes[1].output
+        && outcomes.iter().all(|outcome| outcome.ending == Ending::Exited)
 }
 
 impl Drop for Workshop {
@@ -186,7 +190,7 @@ pub fn compare(programs: &Programs, order: &Order) -> io::Result<bool> {
         };
         let outcomes = workshop.outcomes(pair, &case)?;
         compared += 1;
-        if outcomes[0] != outcomes[1] {
+        if !agree(&outcomes) {
             println!("difference in {name}");
             if !order.brief {
                 show_difference(&workshop, pair, &case, &outcomes);

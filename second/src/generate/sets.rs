@@ -6,8 +6,10 @@ use super::sketch::{set_size, sketch_set, Manner};
 use super::texts::{change_a_byte, damage, filled_to, ornate_text, plain_text, Given};
 use crate::random::Random;
 
-/// The numbers that damage to a set can bring about; 99 is a changed byte.
-const DAMAGES: [u64; 16] = [1, 3, 4, 5, 6, 7, 8, 9, 10, 11, 12, 13, 14, 15, 16, 99];
+/// The numbers that damage to a set can bring about, those with many forms more
+/// often; 99 is a changed byte.
+const DAMAGES: [u64; 24] =
+    [1, 3, 4, 5, 6, 7, 7, 7, 8, 9, 10, 11, 11, 11, 11, 12, 13, 14, 15, 16, 16, 16, 99, 99];
 
 /// A set as it is handed over, damaged or not.
 pub fn given_set(random: &mut Random) -> Vec<Given> {
