@@ -4,3 +4,5 @@ pub mod Fitting
 pub mod Along
 pub mod Next
 pub mod Each
+pub mod Keeps
+pub mod Formed

@@ -38,15 +38,15 @@ pub hard-depends : (t : Table) (s d : ℕ) → hard t s d ≡ true → depends t
 hard-depends t s d h = strong-depends t s d (hard-strong t s d h)
 
 -- what list 24's part on tables says
-pub record Fit (t : Table) : Type 0 where
+pub record TableSound (t : Table) : Type 0 where
   pub few : t .count ≤ maxServices
   pub inside : (s : ℕ) → s < t .count → linksInside (t .count) (settingsAt t s) ≡ true
   pub ranged : (s : ℕ) → s < t .count → settingsInRange (settingsAt t s) ≡ true
   pub acyclic : cyclic (allLinks t) (t .count) ≡ false
 
-pub fit : (t : Table) → (tableFormed t ≡ true) ↔ Fit t
+pub table-sound : (t : Table) → (tableFormed t ≡ true) ↔ TableSound t
 unfolding tableFormed
-fit t = (
+table-sound t = (
   λ f.
       let g = simp (tests, every-true) at f in
       record {
@@ -65,7 +65,7 @@ fit t = (
       ),
 )
 
-module _ (t : Table) (f : Fit t) where
+module _ (t : Table) (f : TableSound t) where
   -- no dependency of any kind leads past the count
   pub all-inside : Inside (allLinks t) (t .count)
   unfolding allLinks
