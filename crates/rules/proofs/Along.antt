@@ -17,13 +17,13 @@ module _ (A B : Record → Bool) where
   Along t x = (e d : ℕ) → e < t .count → d < t .count → hard t e d ≡ true → A (recordAt x e) ≡ true → B (recordAt x d) ≡ true
 
   -- no service that hard-depends on s passes the first test
-  abbrev pub Clear : Table → State → ℕ → Type 0
-  Clear t x s = (e : ℕ) → e < t .count → hard t e s ≡ true → A (recordAt x e) ≡ true → ⊥
+  abbrev pub Free : Table → State → ℕ → Type 0
+  Free t x s = (e : ℕ) → e < t .count → hard t e s ≡ true → A (recordAt x e) ≡ true → ⊥
 
   module _ (t : Table) (x : State) (s : ℕ) (r : Record) (z : Sized x) (l : s < maxServices) (inv : Along t x) where
     pub along-with : ((r : Record) → B r ≡ true → A r ≡ true)
         → (A r ≡ true → (A (recordAt x s) ≡ true) ⊎ ((d : ℕ) → d < t .count → hard t s d ≡ true → B (recordAt x d) ≡ true))
-        → (B (recordAt x s) ≡ true → (B r ≡ true) ⊎ Clear t x s) → Along t (withRecord x s r)
+        → (B (recordAt x s) ≡ true → (B r ≡ true) ⊎ Free t x s) → Along t (withRecord x s r)
     along-with pass go leave e d el dl h a = last (was (with-at x s r z l e)) (with-at x s r z l d)
       where
         was : With x s r e → (B (recordAt x d) ≡ true) × ((A (recordAt x e) ≡ true) ⊎ (e ≡ s))

@@ -287,7 +287,7 @@ module _ (t : Table) (ts : TableSound t) where
     shapes = λ e el. rw (each-below f x (t .count) (h .sized) (ts .few) e el) (o e (recordAt x e) (h .shapes e el));
   }
 
-  sound-start : (x : State) (s : ℕ) → Sound t x → Sound t (afterStart t x s)
+  pub sound-start : (x : State) (s : ℕ) → Sound t x → Sound t (afterStart t x s)
   unfolding afterStart
   sound-start x s h =
       sound-each x (λ d r. startedAs (eqb d s) (startReaches t s d) r)
@@ -305,7 +305,7 @@ module _ (t : Table) (ts : TableSound t) where
       revives true e r o = start-shaped (settingsAt t e .kind) (r .phase) (r .live) (r .cause) o
       revives false e r o = o
 
-  sound-stop : (x : State) (s : ℕ) → s < t .count → Sound t x → Sound t (afterStop x s)
+  pub sound-stop : (x : State) (s : ℕ) → s < t .count → Sound t x → Sound t (afterStop x s)
   unfolding afterStop
   sound-stop x s l h =
       let b = h .times s l in
@@ -313,7 +313,7 @@ module _ (t : Table) (ts : TableSound t) where
       record { launched = b .launched; window = b .window; deadline = b .deadline; pending = b .pending; count = b .count }
       (stop-shaped (settingsAt t s .kind) (recordAt x s .phase) (recordAt x s .live) (recordAt x s .cause) (unfold shapedAt in h .shapes s l))
 
-  sound-stop-all : (x : State) → Sound t x → Sound t (afterStopAll t x)
+  pub sound-stop-all : (x : State) → Sound t x → Sound t (afterStopAll t x)
   unfolding afterStopAll
   sound-stop-all x h =
       sound-each x (λ d r. stopped r)
@@ -321,7 +321,7 @@ module _ (t : Table) (ts : TableSound t) where
       (λ e r o. stop-shaped (settingsAt t e .kind) (r .phase) (r .live) (r .cause) o)
       h
 
-  sound-end : (x : State) (s : ℕ) (good : Bool) → s < t .count → Sound t x → Sound t (afterEnd t x s good)
+  pub sound-end : (x : State) (s : ℕ) (good : Bool) → s < t .count → Sound t x → Sound t (afterEnd t x s good)
   unfolding afterEnd endedAs shapedAt
   sound-end x s good l h = go (recordAt x s .phase) refl good
     where
@@ -347,7 +347,7 @@ module _ (t : Table) (ts : TableSound t) where
       go Ending e g =
           sound-with x s _ h l (settled-timely (x .clock) (h .clock) (settingsAt t s) (settings-ranged s l) (dead (recordAt x s)) gone (recordAt x s .cause)) refl
 
-  sound-clock : (x : State) (n : ℕ) → x .clock ≤ n → n ≤ lastClock → Sound t x → Sound t (afterClock x n)
+  pub sound-clock : (x : State) (n : ℕ) → x .clock ≤ n → n ≤ lastClock → Sound t x → Sound t (afterClock x n)
   unfolding afterClock recordAt shapedAt
   sound-clock x n l m h = record {
     sized = h .sized;

@@ -6,3 +6,5 @@ pub mod Next
 pub mod Each
 pub mod Keeps
 pub mod Formed
+pub mod Runs
+pub mod Held
