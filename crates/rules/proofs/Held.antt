@@ -8,7 +8,7 @@ use mathlib.Core.Path.{_≡_, refl}
 use native.Mathlib.Nat.{le-trans}
 use Rattle.base.proofs.Below.{some-false}
 use Rattle.base.proofs.Tests.{and-false, no-ft, not-both, not-true, refute}
-use Rattle.service.specs.Limits.{maxServices}
+use Rattle.service.specs.Limits.{lastClock, maxServices}
 use Rattle.service.specs.Records.{active, freshState, isUp, recordAt, withRecord}
 use Rattle.service.specs.Settings.{settingsAt}
 use Rattle.service.specs.declared.Phase.{Phase}
@@ -18,7 +18,6 @@ use Rattle.service.specs.declared.State.{State}
 use Rattle.service.specs.declared.Table.{Table}
 use Rattle.service.proofs.Named.{is-down, is-waiting}
 use Rattle.service.proofs.States.{Sized, fresh-record}
-use Rattle.rules.specs.Calls.{Call, outcome}
 use Rattle.rules.specs.Dependencies.{blocked, hard}
 use Rattle.rules.specs.Events.{afterClock, afterEnd, afterStart, afterStop, afterStopAll, each, endedAs}
 use Rattle.rules.specs.Rules.{fits, leaves}
@@ -27,10 +26,8 @@ use Rattle.rules.specs.declared.Rule.the-variants.{Abandon, Begin, End, 
 use Rattle.rules.proofs.Along.{Along, Free, along-with}
 use Rattle.rules.proofs.Each.{each-below}
 use Rattle.rules.proofs.Fitting.{abandon-fits, begin-fits, end-fits, expire-fits, settle-fits, wake-fits}
-use Rattle.rules.proofs.Formed.{Sound, fresh-sound, sound-call, sound-clock, sound-end, sound-rule, sound-start, sound-stop, sound-stop-all}
-use Rattle.rules.proofs.Keeps.{call-keeps}
+use Rattle.rules.proofs.Formed.{Sound, fresh-sound, sound-clock, sound-end, sound-rule, sound-start, sound-stop, sound-stop-all}
 use Rattle.rules.proofs.Links.{TableSound, hard-strong}
-use Rattle.rules.proofs.Next.{next-keeps}
 use Rattle.rules.proofs.Shapes.{expire-active, expire-not-up, release-active, release-up, stop-active, stop-up, up-active}
 
 abbrev isActive : Record → Bool
@@ -118,26 +115,32 @@ module _ (t : Table) (ts : TableSound t) where
     held = held-rule t x s (h .sound .sized) (le-trans l (ts .few)) (h .held) k f;
   }
 
-  pub kept-call : (x : State) → Kept x → (c : Call) → Kept (outcome t x c .state)
-  kept-call x h c = record {
-    sound = sound-call t ts x (h .sound) c;
-    held =
-        call-keeps (λ y. Sound t y × Held t y) t x (h .sound, h .held) c
-        record {
-          starts = λ _ s l. (sound-start t ts x s (h .sound), unfold afterStart in held-each t x _ (h .sound .sized) (ts .few) (h .held) (λ e r a. a) (λ e r u. u));
-          stops = λ s l. (sound-stop t ts x s l (h .sound), held-stop t x s (h .sound .sized) (le-trans l (ts .few)) (h .held));
-          stopsAll =
-              (sound-stop-all t ts x (h .sound),
-              unfold afterStopAll in held-each t x _ (h .sound .sized) (ts .few) (h .held) (λ e r. stop-active (r .phase)) (λ e r. stop-up (r .phase)));
-          ends = λ s good l _. (sound-end t ts x s good l (h .sound), held-end t x s (h .sound .sized) (le-trans l (ts .few)) (h .held) good);
-          clocks = λ n l m. (sound-clock t ts x n l m (h .sound), unfold afterClock in unfold recordAt in h .held);
-          acts =
-              λ y p.
-              next-keeps t y (λ w. Sound t w × Held t w) p
-              (λ k s l f. (sound-rule t ts y k s (p .0) l f, held-rule t y s (p .0 .sized) (le-trans l (ts .few)) (p .1) k f));
-        }
-        .1;
+  pub kept-start : (x : State) → Kept x → (s : ℕ) → Kept (afterStart t x s)
+  kept-start x h s = record {
+    sound = sound-start t ts x s (h .sound);
+    held = unfold afterStart in held-each t x _ (h .sound .sized) (ts .few) (h .held) (λ e r a. a) (λ e r u. u);
   }
+
+  pub kept-stop : (x : State) → Kept x → (s : ℕ) → s < t .count → Kept (afterStop x s)
+  kept-stop x h s l = record {
+    sound = sound-stop t ts x s l (h .sound);
+    held = held-stop t x s (h .sound .sized) (le-trans l (ts .few)) (h .held);
+  }
+
+  pub kept-stop-all : (x : State) → Kept x → Kept (afterStopAll t x)
+  kept-stop-all x h = record {
+    sound = sound-stop-all t ts x (h .sound);
+    held = unfold afterStopAll in held-each t x _ (h .sound .sized) (ts .few) (h .held) (λ e r. stop-active (r .phase)) (λ e r. stop-up (r .phase));
+  }
+
+  pub kept-end : (x : State) → Kept x → (s : ℕ) (good : Bool) → s < t .count → Kept (afterEnd t x s good)
+  kept-end x h s good l = record {
+    sound = sound-end t ts x s good l (h .sound);
+    held = held-end t x s (h .sound .sized) (le-trans l (ts .few)) (h .held) good;
+  }
+
+  pub kept-clock : (x : State) → Kept x → (n : ℕ) → x .clock ≤ n → n ≤ lastClock → Kept (afterClock x n)
+  kept-clock x h n l m = record { sound = sound-clock t ts x n l m (h .sound); held = unfold afterClock in unfold recordAt in h .held }
 
   pub fresh-kept : Kept freshState
   fresh-kept = record { sound = fresh-sound t ts; held = λ e d el dl h a. no-ft (rw (fresh-record e) at a) }

@@ -8,3 +8,5 @@ pub mod Keeps
 pub mod Formed
 pub mod Runs
 pub mod Held
+pub mod Recorded
+pub mod Safety

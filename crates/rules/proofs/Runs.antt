@@ -22,6 +22,14 @@ use Rattle.rules.specs.Demand.{deadlineKill, handed, readBack}
 use Rattle.rules.specs.Rules.{nextAction}
 use Rattle.rules.specs.Runs.{actionAfter, stateAfter, stepsToQuiet, written, writtenActions, writtenServices}
 
+pub after-none : (t : Table) (x : State) → stateAfter t x 0 ≡ x
+unfolding stateAfter
+after-none t x = refl
+
+pub action-none : (t : Table) (x : State) → actionAfter t x 0 ≡ nextAction t x .action
+unfolding actionAfter
+action-none t x = ap (λ (y : State). nextAction t y .action) (after-none t x)
+
 -- the first action, and then those from the state that it leaves
 pub after-first : (t : Table) (x : State) (k : ℕ) → stateAfter t x (suc k) ≡ stateAfter t (nextAction t x .state) k
 unfolding stateAfter
