@@ -40,6 +40,7 @@ use Rattle.rules.proofs.Fitting.{abandon-fits, begin-fits, end-fits, ex
 use Rattle.rules.proofs.Keeps.{call-keeps, calls-keep}
 use Rattle.rules.proofs.Links.{TableSound, table-sound}
 use Rattle.rules.proofs.Next.{next-keeps}
+use Rattle.rules.proofs.Rest.{acts}
 use Rattle.rules.proofs.Shapes.{abandon-shaped, begin-shaped, dead-shaped, expire-shaped, fell-shaped, lose-shaped, release-shaped, settle-shaped, start-shaped, started-shaped, stop-shaped, wake-shaped}
 
 -- what the list says of a record's numbers
@@ -248,6 +249,14 @@ module _ (t : Table) (x : State) (s : ℕ) where
   leaves-shaped End o f = not-true _ .1 (end-fits t x s .0 f .caused)
   leaves-shaped Expire o f =
       expire-shaped (settingsAt t s .kind) (recordAt x s .phase) (recordAt x s .live) (recordAt x s .cause) (not (recordAt x s .killed)) o (expire-fits t x s .0 f .which)
+
+-- the shapes of all records after a rule
+pub shapes-rule : (t : Table) (x : State) (s : ℕ) (k : Rule) → t .count ≤ maxServices → Sized x → ((i : ℕ) → i < t .count → shapedAt t x i ≡ true)
+    → fits k t x s ≡ true → s < t .count → (i : ℕ) → i < t .count → shapedAt t (withRecord x s (leaves k t x s)) i ≡ true
+unfolding shapedAt
+shapes-rule t x s k few z h f l =
+    with-all x s (leaves k t x s) z (le-trans l few) (t .count)
+    (λ i q. shaped (settingsAt t i .kind) (q .phase) (q .live) (q .cause) ≡ true) (λ i il _. h i il) (unfold shapedAt in leaves-shaped t x s k (h s l) f)
 
 -- ---- each change of the state
 

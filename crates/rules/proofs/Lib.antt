@@ -10,3 +10,7 @@ pub mod Runs
 pub mod Held
 pub mod Recorded
 pub mod Safety
+pub mod Weights
+pub mod Rest
+pub mod LastStage
+pub mod LastRests

@@ -237,8 +237,8 @@ pub data Round (t : Table) : Now → List Call → Now → Type 0 where
 
 -- "each begun after the one before has ended"
 pub data Rounds (t : Table) : ℕ → Now → List Call → Now → Type 0 where
-  none : {n : Now} → Rounds t 0 n [] n
-  more : {k : ℕ} {n n′ n″ : Now} {cs ds : List Call} → Rounds t k n cs n′ → Round t n′ ds n″ → Rounds t (suc k) n (cs ++ ds) n″
+  no-rounds : {n : Now} → Rounds t 0 n [] n
+  another : {k : ℕ} {n n′ n″ : Now} {cs ds : List Call} → Rounds t k n cs n′ → Round t n′ ds n″ → Rounds t (suc k) n (cs ++ ds) n″
 
 unfoldable pub nowAt : Table → Now → List Call → Now
 nowAt t n [] = n
