@@ -106,8 +106,8 @@ module _ (t : Table) (x : State) (s : ℕ) (r : Record) (z : Sized x) (l : s < m
     pub was : isNone (r .cause) ≡ true → (isWaiting (recordAt x s .phase) ≡ true) × (isNone (recordAt x s .cause) ≡ true)
 
   module _ (c : Change) (b : Before t x 5) where
-    none2 : Nowhere t (withRecord x s r) Abandon
-    none2 i il = refute _ (λ f. go (abandon-fits t (withRecord x s r) i .0 f) (with-at x s r z l i))
+    no-abandon : Nowhere t (withRecord x s r) Abandon
+    no-abandon i il = refute _ (λ f. go (abandon-fits t (withRecord x s r) i .0 f) (with-at x s r z l i))
       where
         go : Abandoning t (withRecord x s r) i → With x s r i → ⊥
         go m (same q w) = not-both (rw w at (m .waits)) (c .busy)
@@ -121,8 +121,8 @@ module _ (t : Table) (x : State) (s : ℕ) (r : Record) (z : Sized x) (l : s < m
             record { waits = rw w at (m .waits); stuck = (d, k .1, (k .2 .0, (rw (with-other x s r z l d stuck) at (k .2 .1 .0), rw (with-other x s r z l d stuck) at (k .2 .1 .1)))) })
             (b Abandon (lit< tt) i il)
 
-    none3 : Nowhere t (withRecord x s r) Settle
-    none3 i il = refute _ (λ f. go (settle-fits t (withRecord x s r) i .0 f) (with-at x s r z l i))
+    no-settle : Nowhere t (withRecord x s r) Settle
+    no-settle i il = refute _ (λ f. go (settle-fits t (withRecord x s r) i .0 f) (with-at x s r z l i))
       where
         go : Settling t (withRecord x s r) i → With x s r i → ⊥
         go m (same q w) = not-both (c .unclosed (rw w at (m .up))) (rw w at (m .caused))
@@ -137,8 +137,8 @@ module _ (t : Table) (x : State) (s : ℕ) (r : Record) (z : Sized x) (l : s < m
             })
             (b Settle (lit< tt) i il)
 
-    none4 : Nowhere t (withRecord x s r) Wake
-    none4 i il = refute _ (λ f. go (wake-fits t (withRecord x s r) i .0 f) (with-at x s r z l i))
+    no-wake : Nowhere t (withRecord x s r) Wake
+    no-wake i il = refute _ (λ f. go (wake-fits t (withRecord x s r) i .0 f) (with-at x s r z l i))
       where
         go : Waking t (withRecord x s r) i → With x s r i → ⊥
         go m (same q w) = not-both (rw w at (m .down)) (c .woken)
@@ -159,8 +159,8 @@ module _ (t : Table) (x : State) (s : ℕ) (r : Record) (z : Sized x) (l : s < m
             })
             (b Wake (lit< tt) i il)
 
-    none5 : Nowhere t (withRecord x s r) Release
-    none5 i il = refute _ (λ f. go (release-fits t (withRecord x s r) i .0 f) (with-at x s r z l i))
+    no-release : Nowhere t (withRecord x s r) Release
+    no-release i il = refute _ (λ f. go (release-fits t (withRecord x s r) i .0 f) (with-at x s r z l i))
       where
         less : Idle t (withRecord x s r) i → Idle t x i
         less = idle-back (λ d. absurd (not-both d (c .woken))) (c .wants) i
@@ -184,10 +184,10 @@ module _ (t : Table) (x : State) (s : ℕ) (r : Record) (z : Sized x) (l : s < m
 
     pub before-with : Before t (withRecord x s r) 5
     before-with Lose _ = untidy t (withRecord x s r) (c .clean)
-    before-with Abandon _ = none2
-    before-with Settle _ = none3
-    before-with Wake _ = none4
-    before-with Release _ = none5
+    before-with Abandon _ = no-abandon
+    before-with Settle _ = no-settle
+    before-with Wake _ = no-wake
+    before-with Release _ = no-release
     before-with Begin k = absurd (omega arith)
     before-with End k = absurd (omega arith)
     before-with Expire k = absurd (omega arith)

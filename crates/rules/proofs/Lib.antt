@@ -14,3 +14,6 @@ pub mod Weights
 pub mod Rest
 pub mod LastStage
 pub mod LastRests
+pub mod ReleaseStage
+pub mod StageWeights
+pub mod Stages
