@@ -17,3 +17,4 @@ pub mod LastRests
 pub mod ReleaseStage
 pub mod StageWeights
 pub mod Stages
+pub mod Resting
