@@ -9,6 +9,7 @@ pub mod Formed
 pub mod Runs
 pub mod Held
 pub mod Recorded
+pub mod Fed
 pub mod Safety
 pub mod Weights
 pub mod Rest
