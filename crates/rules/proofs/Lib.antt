@@ -19,3 +19,6 @@ pub mod ReleaseStage
 pub mod StageWeights
 pub mod Stages
 pub mod Resting
+pub mod Timed
+pub mod Doom
+pub mod SentKill

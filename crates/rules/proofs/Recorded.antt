@@ -41,10 +41,10 @@ module _ (t : Table) (ts : TableSound t) where
 
 -- ---- what an action does to the record
 
-with-in : (s : ℕ) (v : Set) → with s v s ≡ true
+pub with-in : (s : ℕ) (v : Set) → with s v s ≡ true
 with-in s v = rw (eq-eqb s s refl)
 
-with-others : (s e : ℕ) (v : Set) → e ≢ s → with s v e ≡ v e
+pub with-others : (s e : ℕ) (v : Set) → e ≢ s → with s v e ≡ v e
 with-others s e v q = rw (ne-eqb e s q)
 
 pub without-out : (s : ℕ) (v : Set) → without s v s ≡ false

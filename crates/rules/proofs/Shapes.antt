@@ -243,3 +243,10 @@ test-serving-running = refl
 
 pub serving-running : (p : Phase) (b : Bool) → (isUp p && b) ≡ true → ((isStarting p || isUp p) && b) ≡ true
 serving-running = simp finite at test-serving-running
+
+test-release-not-ending : phases (λ p. given (isWaiting p || isStarting p || isUp p) (not (isEnding p))) ≡ true
+unfolding phases given
+test-release-not-ending = refl
+
+pub release-not-ending : (p : Phase) → (isWaiting p || isStarting p || isUp p) ≡ true → not (isEnding p) ≡ true
+release-not-ending = simp finite at test-release-not-ending
