@@ -179,10 +179,10 @@ pub fn compare(programs: &Programs, order: &Order) -> io::Result<bool> {
         .map(|fixed| (format!("fixed case: {}", fixed.name), fixed.case))
         .collect();
     let fixed = wanted.len() as u64;
-    let generated = (fixed..order.count.max(fixed)).map(|number| {
-        let kind = order.kinds[(number % order.kinds.len() as u64) as usize];
-        let name = format!("{} seed {} index {number}", kind.word(), order.seed);
-        (name, generate(kind, order.seed, number))
+    let generated = (0..order.count.saturating_sub(fixed)).map(|index| {
+        let kind = order.kinds[(index % order.kinds.len() as u64) as usize];
+        let name = format!("{} seed {} index {index}", kind.word(), order.seed);
+        (name, generate(kind, order.seed, index))
     });
     for (name, case) in wanted.into_iter().chain(generated) {
         let Some(pair) = programs.for_case(&case) else {
@@ -257,8 +257,7 @@ fn ending_words(ending: Ending) -> String {
 /// A smaller case that still tells the programs apart.
 fn made_small(workshop: &Workshop, programs: &[PathBuf; 2], case: &Case) -> Case {
     let until = Instant::now() + REDUCING;
-    let differs =
-        |case: &Case| Instant::now() < until && workshop.differs(programs, case);
+    let differs = |case: &Case| Instant::now() < until && workshop.differs(programs, case);
     match case {
         Case::Scenario(input) => {
             let lines = lines_with_ends(input);

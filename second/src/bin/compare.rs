@@ -8,12 +8,13 @@ use std::process::ExitCode;
 const USAGE: &str = "\
 usage: compare [--brief] [--kind sets|scenarios|folders|all] [--seed S] [--count N] A B
 sets and scenarios take two programs `simulate`, folders two `check_services`;
-all takes two folders that hold both, or SIMULATE SIMULATE CHECK CHECK";
+all takes two folders that hold both, or SIMULATE SIMULATE CHECK CHECK;
+with no kind, two programs get sets and scenarios, and all else gets all";
 
 fn main() -> ExitCode {
-    match asked().and_then(|(programs, order)| {
-        compare(&programs, &order).map_err(|error| error.to_string())
-    }) {
+    match asked()
+        .and_then(|(programs, order)| compare(&programs, &order).map_err(|error| error.to_string()))
+    {
         Ok(true) => ExitCode::SUCCESS,
         Ok(false) => ExitCode::FAILURE,
         Err(message) => {
@@ -25,7 +26,7 @@ fn main() -> ExitCode {
 
 fn asked() -> Result<(Programs, Order), String> {
     let usage = || USAGE.to_string();
-    let mut order = Order { kinds: CaseKind::ALL.to_vec(), seed: 1, count: 1_000, brief: false };
+    let mut order = Order { kinds: Vec::new(), seed: 1, count: 1_000, brief: false };
     let mut paths: Vec<PathBuf> = Vec::new();
     let mut words = std::env::args().skip(1);
     while let Some(word) = words.next() {
@@ -46,6 +47,13 @@ fn asked() -> Result<(Programs, Order), String> {
             ("--count", number) => order.count = number.parse().map_err(|_| usage())?,
             _ => return Err(usage()),
         }
+    }
+    if order.kinds.is_empty() {
+        order.kinds = if paths.len() == 2 && paths.iter().all(|path| path.is_file()) {
+            vec![CaseKind::Sets, CaseKind::Scenarios]
+        } else {
+            CaseKind::ALL.to_vec()
+        };
     }
     Ok((programs_of(&paths, &order.kinds).ok_or_else(usage)?, order))
 }

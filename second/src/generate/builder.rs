@@ -86,9 +86,9 @@ impl Builder {
 /// one's own choice mean the same to every runner.
 pub fn kept_whole(set: &[Given]) -> bool {
     set.len() <= KEPT_SERVICES
-        && set.iter().all(|given| {
-            given.name.len() <= KEPT_NAME_BYTES && given.text.len() <= KEPT_TEXT_BYTES
-        })
+        && set
+            .iter()
+            .all(|given| given.name.len() <= KEPT_NAME_BYTES && given.text.len() <= KEPT_TEXT_BYTES)
 }
 
 /// The fields of a record as `set` takes them.

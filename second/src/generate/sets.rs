@@ -14,7 +14,8 @@ const DAMAGES: [u64; 24] =
 /// A set as it is handed over, damaged or not.
 pub fn given_set(random: &mut Random) -> Vec<Given> {
     let size = if random.one_in(60) { 0 } else { set_size(random) };
-    let manner = Manner { odd_names: true, odd_times: true, unused_settings: true, zero_timeouts: true };
+    let manner =
+        Manner { odd_names: true, odd_times: true, unused_settings: true, zero_timeouts: true };
     let sketches = sketch_set(random, size, manner);
     let plain = random.one_in(4);
     let mut set: Vec<Given> = Vec::new();
@@ -23,12 +24,19 @@ pub fn given_set(random: &mut Random) -> Vec<Given> {
     }
     let damages = match random.below(10) {
         0..=2 => 0,
-        3..=7 => 1,
+        3..=6 => 1,
         _ => 2,
     };
+    let mut place = random.below(set.len().max(1) as u64) as usize;
     for _ in 0..damages {
         let number = *random.pick(&DAMAGES);
-        damage(random, &mut set, number);
+        if !set.is_empty() {
+            damage(random, &mut set, place, number);
+        }
+        // Two faults of one text, or of two.
+        if random.one_in(2) {
+            place = random.below(set.len().max(1) as u64) as usize;
+        }
     }
     if random.one_in(12) && !set.is_empty() {
         let place = random.below(set.len() as u64) as usize;

@@ -87,15 +87,17 @@ fn sketch_settings(random: &mut Random, manner: Manner) -> Vec<Setting> {
         _ => ServiceType::Internal,
     };
     let mut settings = vec![Setting::word("type", service_type.word())];
-    let unused = manner.unused_settings && random.one_in(3);
-    if service_type != ServiceType::Internal || unused {
+    let unused_command = manner.unused_settings && random.one_in(3);
+    if service_type != ServiceType::Internal || unused_command {
         settings.push(command(random, "command"));
     }
-    if (service_type == ServiceType::Scripted && !random.one_in(3)) || unused {
+    let unused_stop_command = manner.unused_settings && random.one_in(3);
+    if (service_type == ServiceType::Scripted && !random.one_in(3)) || unused_stop_command {
         settings.push(command(random, "stop-command"));
     }
     if random.one_in(2) {
-        settings.push(Setting::word("restart", *random.pick(&["yes", "true", "yes", "no", "false"])));
+        settings
+            .push(Setting::word("restart", *random.pick(&["yes", "true", "yes", "no", "false"])));
     }
     if random.one_in(8) {
         settings.push(Setting::word("smooth-recovery", *random.pick(&["no", "false"])));
@@ -142,7 +144,12 @@ fn token(random: &mut Random) -> Vec<u8> {
         _ => random.between(1, 6),
     };
     let odd = random.one_in(3);
-    let mut byte = || if odd && random.one_in(3) { *random.pick(ODD) } else { *random.pick(PLAIN) };
+    let mut byte = || match random.below(6) {
+        0 if odd => *random.pick(ODD),
+        1 if odd => random.between(128, 255) as u8,
+        2 if odd => random.between(33, 126) as u8,
+        _ => *random.pick(PLAIN),
+    };
     (0..length).map(|_| byte()).collect()
 }
 
@@ -152,7 +159,15 @@ fn short_time(random: &mut Random) -> String {
 
 fn odd_time(random: &mut Random) -> String {
     const TIMES: [&str; 10] = [
-        "0", "0.2", "86400", "086400", "86400.0000", "86399.9999", "000000", "0.0001", "000005.5",
+        "0",
+        "0.2",
+        "86400",
+        "086400",
+        "86400.0000",
+        "86399.9999",
+        "000000",
+        "0.0001",
+        "000005.5",
         "1.05",
     ];
     if random.one_in(2) {

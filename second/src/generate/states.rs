@@ -153,7 +153,7 @@ pub fn free_state_case(random: &mut Random) -> Vec<u8> {
 pub fn clause_case(random: &mut Random) -> Vec<u8> {
     let mut builder = Builder::new();
     load_set(random, &mut builder);
-    for _ in 0..random.between(4, 12) {
+    for _ in 0..random.between(6, 20) {
         let Some(loaded) = builder.loaded() else {
             break;
         };
@@ -210,11 +210,11 @@ fn touch_a_clause(random: &mut Random, builder: &mut Builder, services: usize) -
         Vec::new()
     };
     let last_time = LAST_CLOCK + LONGEST_TIME;
-    match random.below(16) {
+    match random.below(22) {
         0 => put_count(random, builder, count),
         1 => put_far_dependency(random, builder, &table, service),
         2 => put_cycle(random, builder, &table, service),
-        3 => put_setting(random, builder, &table, service),
+        3 | 16 | 17 => put_setting(random, builder, &table, service),
         4 => {
             let clock = *random.pick(&[LAST_CLOCK, LAST_CLOCK + 1, u64::MAX]);
             builder.push(&format!("set clock {clock}"));
@@ -225,9 +225,9 @@ fn touch_a_clause(random: &mut Random, builder: &mut Builder, services: usize) -
         7 => set("deadline", at_or_past(random, last_time)),
         8 => set("not-before", at_or_past(random, last_time)),
         9 => set("restarts", at_or_past(random, LARGEST_COUNT)),
-        10 => set("live", if record.live { "0" } else { "1" }.to_string()),
-        11 => set("cause", random.pick(&Cause::ALL).word().to_string()),
-        12 | 13 => set("phase", random.pick(&Phase::ALL).word().to_string()),
+        10 | 18 | 19 => set("live", if record.live { "0" } else { "1" }.to_string()),
+        11 | 20 => set("cause", random.pick(&Cause::ALL).word().to_string()),
+        12 | 13 | 21 => set("phase", random.pick(&Phase::ALL).word().to_string()),
         14 => {
             // A record past the last service isn't read.
             let place = random.between(count.min(31), 31);

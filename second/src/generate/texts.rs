@@ -3,7 +3,7 @@
 
 use super::sketch::{odd_name, Setting, Sketch};
 use crate::random::Random;
-use crate::text::is_white_space;
+use crate::text::{is_bad_byte, is_white_space};
 
 /// A service as it is handed over: a name and a text of any bytes.
 #[derive(Clone, Debug)]
@@ -155,12 +155,8 @@ fn insert_line(random: &mut Random, text: &mut Vec<u8>, line: &[u8]) {
     *text = lines.join(&b'\n');
 }
 
-/// Damages a set so that, most often, this number is given.
-pub fn damage(random: &mut Random, set: &mut Vec<Given>, number: u64) {
-    if set.is_empty() {
-        return;
-    }
-    let place = random.below(set.len() as u64) as usize;
+/// Damages a set at this service so that, most often, this number is given.
+pub fn damage(random: &mut Random, set: &mut Vec<Given>, place: usize, number: u64) {
     match number {
         1 => {
             while set.len() < 33 {
@@ -179,7 +175,8 @@ pub fn damage(random: &mut Random, set: &mut Vec<Given>, number: u64) {
         }
         5 => make_long(random, set, place),
         6 => {
-            let bad = *random.pick(b"\x00\x01\x08\x0e\x1b\x1f\x7f");
+            let bad: Vec<u8> = (0..=255).filter(|byte| is_bad_byte(*byte)).collect();
+            let bad = *random.pick(&bad);
             let at = random.below(set[place].text.len() as u64 + 1) as usize;
             set[place].text.insert(at, bad);
         }
@@ -239,27 +236,58 @@ fn make_long(random: &mut Random, set: &mut Vec<Given>, place: usize) {
 /// A line that gives this number, 7 to 11.
 pub fn bad_line(random: &mut Random, number: u64) -> Vec<u8> {
     const MALFORMED: [&[u8]; 18] = [
-        b"bogus", b"Type=process", b"type2=process", b"command +=a", b"@include x",
-        b"depends on: a", b"=a", b"type", b"type process", b"command=a#b", b"command=\"\"#",
-        b"command=a\\ #", b"type=process#", b"command=\"a\"#b", b"command=#\\ a#\\", b"\xffa=b",
-        b"type_=a", b"command=a#\\",
+        b"bogus",
+        b"Type=process",
+        b"type2=process",
+        b"command +=a",
+        b"@include x",
+        b"depends on: a",
+        b"=a",
+        b"type",
+        b"type process",
+        b"command=a#b",
+        b"command=\"\"#",
+        b"command=a\\ #",
+        b"type=process#",
+        b"command=\"a\"#b",
+        b"command=#\\ a#\\",
+        b"\xffa=b",
+        b"type_=a",
+        b"command=a#\\",
     ];
     const OPEN: [&[u8]; 6] = [
-        b"command=\"", b"type=\"process", b"command=a \"b # c", b"command=\"a\\\"",
-        b"command=\"a#", b"depends-on=a\"",
+        b"command=\"",
+        b"type=\"process",
+        b"command=a \"b # c",
+        b"command=\"a\\\"",
+        b"command=\"a#",
+        b"depends-on=a\"",
     ];
     const LAST_BACKSLASH: [&[u8]; 6] = [
-        b"command=\\", b"command=a b\\", b"command=\"a\\", b"type=process\\", b"command=a\\\\\\",
+        b"command=\\",
+        b"command=a b\\",
+        b"command=\"a\\",
+        b"type=process\\",
+        b"command=a\\\\\\",
         b"restart-delay=\" \\",
     ];
     const UNKNOWN: [&[u8]; 9] = [
-        b"depends-on.d: a", b"options=a", b".=a", b"-:", b"typ=process", b"types=process",
-        b"log-type=\"", b"command-=#\\", b"pid-file = a#b",
+        b"depends-on.d: a",
+        b"options=a",
+        b".=a",
+        b"-:",
+        b"typ=process",
+        b"types=process",
+        b"log-type=\"",
+        b"command-=#\\",
+        b"pid-file = a#b",
     ];
     let line = match number {
+        7 if random.one_in(3) => changed_name(random),
         7 => random.pick(&MALFORMED).to_vec(),
         8 => random.pick(&OPEN).to_vec(),
         9 => random.pick(&LAST_BACKSLASH).to_vec(),
+        10 if random.one_in(3) => changed_name(random),
         10 => random.pick(&UNKNOWN).to_vec(),
         _ => bad_value(random).as_bytes().to_vec(),
     };
@@ -271,20 +299,106 @@ pub fn bad_line(random: &mut Random, number: u64) -> Vec<u8> {
     line
 }
 
+const PROPERTIES: [&str; 14] = [
+    "type",
+    "command",
+    "stop-command",
+    "restart",
+    "smooth-recovery",
+    "restart-delay",
+    "restart-limit-interval",
+    "restart-limit-count",
+    "start-timeout",
+    "stop-timeout",
+    "depends-on",
+    "depends-ms",
+    "waits-for",
+    "term-signal",
+];
+
+/// A line whose property name has a byte too many, too few, or another.
+fn changed_name(random: &mut Random) -> Vec<u8> {
+    const BYTES: &[u8] = b"abyz-._`{/,+0Z \"#\\\x80";
+    let mut line = random.pick(&PROPERTIES).as_bytes().to_vec();
+    let at = random.below(line.len() as u64) as usize;
+    match random.below(3) {
+        0 => {
+            line.remove(at);
+        }
+        1 => line[at] = *random.pick(BYTES),
+        _ => line.insert(at, *random.pick(BYTES)),
+    }
+    line.extend_from_slice(b"=5");
+    line
+}
+
+/// Any property with a value of any property, or a number of any form.
+fn any_value(random: &mut Random) -> String {
+    const WORDS: [&str; 22] = [
+        "process", "scripted", "internal", "yes", "true", "no", "false", "none", "HUP", "INT",
+        "TERM", "QUIT", "USR1", "USR2", "KILL", "0", "65535", "65536", "99999", "86400", "s0",
+        "\"\"",
+    ];
+    let property = random.pick(&PROPERTIES);
+    if random.one_in(2) {
+        return format!("{property}={}", random.pick(&WORDS));
+    }
+    let mut digits = |most: u64| -> String {
+        (0..random.below(most + 1)).map(|_| char::from(b'0' + random.below(10) as u8)).collect()
+    };
+    let (whole, fraction) = (digits(7), digits(6));
+    let point = *random.pick(&[".", "", "", "..", ","]);
+    format!("{property}={whole}{point}{fraction}")
+}
+
 fn bad_value(random: &mut Random) -> String {
+    if random.one_in(3) {
+        return any_value(random);
+    }
     const TIMES: [&str; 13] = [
-        "86400.0001", ".5", "5.", "0.00001", "0086400", "5.00000", "86401", "1e3", "-1", "+1",
-        "1 2", "", "999999",
+        "86400.0001",
+        ".5",
+        "5.",
+        "0.00001",
+        "0086400",
+        "5.00000",
+        "86401",
+        "1e3",
+        "-1",
+        "+1",
+        "1 2",
+        "",
+        "999999",
     ];
     const TIMED: [&str; 4] =
         ["restart-delay", "restart-limit-interval", "start-timeout", "stop-timeout"];
     const OTHERS: [&str; 27] = [
-        "type=bgprocess", "type=Process", "type=", "type=process \"\"", "type=\"\"", "command=",
-        "command=\"\" a", "command= # a", "stop-command=", "stop-command=\"\"", "restart=Yes",
-        "restart=on-failure", "restart=1", "restart=", "smooth-recovery=yes",
-        "smooth-recovery=true", "restart-limit-count=65536", "restart-limit-count=000003",
-        "restart-limit-count=-1", "restart-limit-count=1.0", "term-signal=SIGTERM",
-        "term-signal=term", "term-signal=", "depends-on=", "depends-ms=a/b", "waits-for=a b",
+        "type=bgprocess",
+        "type=Process",
+        "type=",
+        "type=process \"\"",
+        "type=\"\"",
+        "command=",
+        "command=\"\" a",
+        "command= # a",
+        "stop-command=",
+        "stop-command=\"\"",
+        "restart=Yes",
+        "restart=on-failure",
+        "restart=1",
+        "restart=",
+        "smooth-recovery=yes",
+        "smooth-recovery=true",
+        "restart-limit-count=65536",
+        "restart-limit-count=000003",
+        "restart-limit-count=-1",
+        "restart-limit-count=1.0",
+        "term-signal=SIGTERM",
+        "term-signal=term",
+        "term-signal=",
+        "depends-on=",
+        "depends-ms=a/b",
+        "waits-for=a b",
         "depends-on=nnnnnnnnnnnnnnnnnnnnnnnnnnnnnnnnn",
     ];
     if random.one_in(3) {
