@@ -22,3 +22,4 @@ pub mod Resting
 pub mod Timed
 pub mod Doom
 pub mod SentKill
+pub mod Rounds
