@@ -23,3 +23,4 @@ pub mod Timed
 pub mod Doom
 pub mod SentKill
 pub mod Rounds
+pub mod Demand

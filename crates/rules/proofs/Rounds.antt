@@ -265,7 +265,7 @@ module _ (t : Table) (tf : tableFormed t ≡ true) (ts : TableSound t) (nz : NoZ
   stretch-end empty c b = call c b empty
   stretch-end (call d e r) c b = call d e (stretch-end r c b)
 
-  quiet-stretch : {n n′ : Now} {cs : List Call} → ToQuiet t n cs n′ → Stretch t n cs n′
+  pub quiet-stretch : {n n′ : Now} {cs : List Call} → ToQuiet t n cs n′ → Stretch t n cs n′
   quiet-stretch (by-run ss as′ a) = call (run ss as′) refl empty
   quiet-stretch (singly r e a) = stretch-end r next refl
 
