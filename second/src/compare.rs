@@ -51,6 +51,8 @@ pub struct Order {
     pub count: u64,
     /// Only names the case that differs.
     pub brief: bool,
+    /// The folder where the case made small is laid out.
+    pub keep: Option<PathBuf>,
 }
 
 /// How a program came to its end. The exit status is not looked at.
@@ -67,6 +69,35 @@ pub struct Outcome {
     pub ending: Ending,
 }
 
+/// The names, in a folder where a case is laid out, of the standard input and
+/// of the folder in which `check_services` runs.
+const INPUT: &str = "input";
+const SERVICES: &str = "services";
+
+/// Writes the files of a case.
+fn lay_out(case: &Case, place: &Path) -> io::Result<()> {
+    match case {
+        Case::Scenario(input) => fs::write(place.join(INPUT), input),
+        Case::Folder(folder) => {
+            fs::write(place.join(INPUT), &folder.input)?;
+            let services = place.join(SERVICES);
+            if services.exists() {
+                fs::remove_dir_all(&services)?;
+            }
+            fs::create_dir_all(&services)?;
+            for (name, entry) in &folder.entries {
+                let path = services.join(OsStr::from_bytes(name));
+                match entry {
+                    Entry::File(text) => fs::write(path, text)?,
+                    Entry::Directory => fs::create_dir(path)?,
+                    Entry::LostLink => std::os::unix::fs::symlink("to/nothing", path)?,
+                }
+            }
+            Ok(())
+        }
+    }
+}
+
 /// A folder of one's own for the files of a case; removed at the end.
 pub struct Workshop {
     folder: PathBuf,
@@ -79,44 +110,15 @@ impl Workshop {
         Ok(Workshop { folder })
     }
 
-    fn input(&self) -> PathBuf {
-        self.folder.join("input")
-    }
-
-    fn services(&self) -> PathBuf {
-        self.folder.join("services")
-    }
-
-    /// Writes the files of a case.
-    fn lay_out(&self, case: &Case) -> io::Result<()> {
-        match case {
-            Case::Scenario(input) => fs::write(self.input(), input),
-            Case::Folder(folder) => {
-                fs::write(self.input(), &folder.input)?;
-                let services = self.services();
-                if services.exists() {
-                    fs::remove_dir_all(&services)?;
-                }
-                fs::create_dir_all(&services)?;
-                for (name, entry) in &folder.entries {
-                    let path = services.join(OsStr::from_bytes(name));
-                    match entry {
-                        Entry::File(text) => fs::write(path, text)?,
-                        Entry::Directory => fs::create_dir(path)?,
-                        Entry::LostLink => std::os::unix::fs::symlink("to/nothing", path)?,
-                    }
-                }
-                Ok(())
-            }
-        }
-    }
-
     /// Runs one program over the case that is laid out.
     fn run(&self, program: &Path, case: &Case) -> io::Result<Outcome> {
         let mut command = Command::new(program);
-        command.stdin(File::open(self.input())?).stdout(Stdio::piped()).stderr(Stdio::null());
+        command
+            .stdin(File::open(self.folder.join(INPUT))?)
+            .stdout(Stdio::piped())
+            .stderr(Stdio::null());
         if let Case::Folder(_) = case {
-            command.current_dir(self.services());
+            command.current_dir(self.folder.join(SERVICES));
         }
         let mut child = command.spawn()?;
         let stdout = child.stdout.take().ok_or_else(|| io::Error::other("no output"))?;
@@ -145,7 +147,7 @@ impl Workshop {
 
     /// The outcomes of both programs over a case.
     pub fn outcomes(&self, programs: &[PathBuf; 2], case: &Case) -> io::Result<[Outcome; 2]> {
-        self.lay_out(case)?;
+        lay_out(case, &self.folder)?;
         Ok([self.run(&programs[0], case)?, self.run(&programs[1], case)?])
     }
 
@@ -193,7 +195,11 @@ pub fn compare(programs: &Programs, order: &Order) -> io::Result<bool> {
         if !agree(&outcomes) {
             println!("difference in {name}");
             if !order.brief {
-                show_difference(&workshop, pair, &case, &outcomes);
+                let small = show_difference(&workshop, pair, &case, &outcomes);
+                if let Some(folder) = &order.keep {
+                    fs::create_dir_all(folder)?;
+                    lay_out(&small, folder)?;
+                }
             }
             println!("compared {compared} cases ({} fixed), a difference", fixed.min(compared));
             return Ok(false);
@@ -211,18 +217,20 @@ fn is_of_kind(case: &Case, kind: CaseKind) -> bool {
     matches!(case, Case::Folder(_)) == (kind == CaseKind::Folders)
 }
 
+/// Shows the case and its outcomes, whole and made small; gives the small one.
 fn show_difference(
     workshop: &Workshop,
     programs: &[PathBuf; 2],
     case: &Case,
     outcomes: &[Outcome; 2],
-) {
+) -> Case {
     show_case(case, outcomes);
     let small = made_small(workshop, programs, case);
     if let Ok(outcomes) = workshop.outcomes(programs, &small) {
         println!("made small:");
         show_case(&small, &outcomes);
     }
+    small
 }
 
 fn show_case(case: &Case, outcomes: &[Outcome; 2]) {

@@ -505,7 +505,8 @@ fn bad_lines() -> FixedCase {
     scenario(
         "bad lines",
         "|x\n!x\nservice\nnext\nservice a\n|type=internal\nload\nload 65537\n\
-         load 00000000000000000000\nload 000000000000000000000\nnext\r\nnext \n next\nstart  0\nstart 18446744073709551616\n\
+         load 00000000000000000000\nload 000000000000000000000\nnext\r\nnext \n next\n\
+         start  0\nstart 18446744073709551616\n\
          start 18446744073709551615\nrun 4\nrun 257 4\nrun 3 4\nrun 4 4\n% says nothing\n\n\
          set 32 live 0\nset 0 live 2\nset 0 live 00\nset 0 phase Up\nset 00 deadline 0\n\
          end 0 fine\nend 0 good\nquery\nclock 281474976710657\nclock 281474976710656\nclock 5\n",

@@ -16,6 +16,7 @@ use crate::loader;
 use crate::program::lend;
 use crate::random::Random;
 use crate::reduce::reduce;
+use crate::scenario::action_words;
 use std::time::{Duration, Instant};
 
 /// A call of demand 3's lists.
@@ -202,8 +203,9 @@ impl<'a> Watch<'a> {
             for dependent in self.table.numbers() {
                 if self.hard_dependents[service][dependent] && self.record[dependent] {
                     return Err(format!(
-                        "{action:?} is handed out while {dependent}, which hard-depends on it, \
-                         has a live process"
+                        "{} is handed out while {dependent}, which hard-depends on {service}, \
+                         has a live process",
+                        action_words(action)
                     ));
                 }
             }
@@ -326,7 +328,7 @@ pub struct Tried {
     /// The most actions before quiet for one service, as actions and services.
     pub most: (usize, u64),
     /// The scenario that breaks demand 3, and how.
-    pub broken: Option<String>,
+    pub broken: Option<Vec<u8>>,
 }
 
 impl Tried {
@@ -522,16 +524,15 @@ fn try_states(random: &mut Random, tried: &mut Tried) {
     tried.saw(best_steps, table.count);
 }
 
-fn broken_state(builder: &mut Builder, table: &Table, state: &State) -> String {
+fn broken_state(builder: &mut Builder, table: &Table, state: &State) -> Vec<u8> {
     builder.put_state(state, PLACES);
-    let begun = String::from_utf8_lossy(&builder.scenario).into_owned();
-    let bound = 4 * table.count;
-    format!("% more than {bound} actions come before quiet\n{begun}state\nrun\n")
+    let message = format!("% more than {} actions come before quiet\n", 4 * table.count);
+    [message.as_bytes(), &builder.scenario, b"state\nrun\n"].concat()
 }
 
 /// The scenario that shows what is broken: its calls, and then the lines of
 /// its texts, left out as far as it still shows it.
-fn broken_scenario(set: &[Given], calls: &[Call], message: &str) -> String {
+fn broken_scenario(set: &[Given], calls: &[Call], message: &str) -> Vec<u8> {
     let breaks = |set: &[Given], calls: &[Call]| {
         load_given(set).is_some_and(|table| broken_by(&table, calls).is_some())
     };
@@ -558,5 +559,5 @@ fn broken_scenario(set: &[Given], calls: &[Call], message: &str) -> String {
     for call in calls {
         builder.push(&call.line());
     }
-    String::from_utf8_lossy(&builder.scenario).into_owned()
+    builder.scenario
 }

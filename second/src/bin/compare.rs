@@ -6,7 +6,8 @@ use std::path::{Path, PathBuf};
 use std::process::ExitCode;
 
 const USAGE: &str = "\
-usage: compare [--brief] [--kind sets|scenarios|folders|all] [--seed S] [--count N] A B
+usage: compare [--kind sets|scenarios|folders|all] [--seed S] [--count N]
+               [--brief] [--keep FOLDER] PROGRAM PROGRAM
 sets and scenarios take two programs `simulate`, folders two `check_services`;
 all takes two folders that hold both, or SIMULATE SIMULATE CHECK CHECK;
 with no kind, two programs get sets and scenarios, and all else gets all";
@@ -26,7 +27,7 @@ fn main() -> ExitCode {
 
 fn asked() -> Result<(Programs, Order), String> {
     let usage = || USAGE.to_string();
-    let mut order = Order { kinds: Vec::new(), seed: 1, count: 1_000, brief: false };
+    let mut order = Order { kinds: Vec::new(), seed: 1, count: 1_000, brief: false, keep: None };
     let mut paths: Vec<PathBuf> = Vec::new();
     let mut words = std::env::args().skip(1);
     while let Some(word) = words.next() {
@@ -43,6 +44,7 @@ fn asked() -> Result<(Programs, Order), String> {
         match (word.as_str(), value.as_str()) {
             ("--kind", "all") => order.kinds = CaseKind::ALL.to_vec(),
             ("--kind", kind) => order.kinds = vec![CaseKind::from_word(kind).ok_or_else(usage)?],
+            ("--keep", folder) => order.keep = Some(PathBuf::from(folder)),
             ("--seed", number) => order.seed = number.parse().map_err(|_| usage())?,
             ("--count", number) => order.count = number.parse().map_err(|_| usage())?,
             _ => return Err(usage()),

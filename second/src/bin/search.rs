@@ -1,6 +1,7 @@
 //! Searches at random for a list of calls, or a state, that breaks demand 3.
 
 use second::search::search;
+use std::io::{self, Write};
 use std::process::exit;
 use std::time::Duration;
 
@@ -23,7 +24,7 @@ fn main() {
     }
     let tried = search(seed, Duration::from_secs(seconds));
     if let Some(scenario) = &tried.broken {
-        print!("{scenario}");
+        let _ = io::stdout().write_all(scenario);
     }
     println!("{}", tried.last_line());
     exit(if tried.broken.is_some() { 1 } else { 0 });
