@@ -24,3 +24,4 @@ pub mod Doom
 pub mod SentKill
 pub mod Rounds
 pub mod Demand
+pub mod Sample
