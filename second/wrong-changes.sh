@@ -263,6 +263,8 @@ wrong "a limit count may have leading zeros without end" text.rs \
     's/digits(word, 5)?;/digits(word, 6)?;/'
 
 # The scenario runner.
+wrong "a scenario is never cut" scenario.rs \
+    's/INPUT_BYTES: usize = 262_144/INPUT_BYTES: usize = 524_288/'
 wrong "a load keeps the clock" scenario.rs \
     's/^        self.loaded = None;/        let clock = self.loaded.as_ref().map_or(0, |it| it.state.clock);\n&/
      s/state: State::FRESH,/state: State { clock, ..State::FRESH },/'
@@ -294,6 +296,10 @@ wrong "an unknown property is seen only after its value" text.rs \
 # The small program.
 wrong "the program stops reading at 32,768 bytes" program.rs \
     's/total > LONGEST_TOTAL/total >= LONGEST_TOTAL/'
+wrong "the program reads 131,072 bytes of names" program.rs \
+    's/INPUT_BYTES: usize = 65_536/INPUT_BYTES: usize = 131_072/'
+wrong "the program reads 4,096 bytes of a file" program.rs \
+    's/FILE_BYTES: usize = LONGEST_TEXT + 1/FILE_BYTES: usize = LONGEST_TEXT/'
 wrong "a missing file is an empty text" program.rs \
     's/files.read(name, FILE_BYTES).ok_or(service)?/{ let _: Result<(), usize> = Err(service); files.read(name, FILE_BYTES).unwrap_or_default() }/'
 

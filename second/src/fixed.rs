@@ -640,6 +640,12 @@ fn folder_cases() -> Vec<FixedCase> {
         ),
         folder("33 names", &many, vec![], "refused 1 service 0 line 0\n"),
         folder("a long name", &format!("{long}y\n"), vec![], "refused 3 service 0 line 0\n"),
+        folder(
+            "names are read from the first 65,536 bytes",
+            &format!("{}\n{}", "x".repeat(65_536), "a\n".repeat(40)),
+            vec![],
+            "refused 3 service 0 line 0\n",
+        ),
         folder("a repeated name", "a\nb\na\n", vec![], "refused 4 service 2 line 0\n"),
         folder(
             "a file of 4,096 bytes",

@@ -413,6 +413,9 @@ fn drive(
         calls.push(call);
         watch.call(call)
     };
+    if random.one_in(30) {
+        make(watch, Call::Clock(LAST_CLOCK - random.below(200_000)))?;
+    }
     for _ in 0..random.between(5, 80) {
         let line = random_call(random, table, &watch.state);
         if let Some(call) = Call::from_line(&line) {
@@ -435,6 +438,10 @@ fn drive(
         make(watch, Call::Clock(past_every_deadline(random, table, &watch.state)))?;
         for part in 0..2 {
             if part == 1 {
+                for _ in 0..random.below(between + 1) {
+                    let call = call_between(random, table, watch);
+                    make(watch, call)?;
+                }
                 let mut killed = watch.killed_and_live();
                 random.shuffle(&mut killed);
                 for service in killed {
