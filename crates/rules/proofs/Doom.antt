@@ -211,7 +211,7 @@ module _ (t : Table) (few : t .count ≤ maxServices) where
     leaves-doomed Expire f =
         let m = expire-fits t x s .0 f in (
           expire-doomed (recordAt x s .phase) (recordAt x s .aside) (recordAt x s .wanted) (recordAt x s .cause) d
-          (expire-active (recordAt x s .phase) (not (recordAt x s .killed)) (m .which)),
+              (expire-active (recordAt x s .phase) (not (recordAt x s .killed)) (m .which)),
           record {
             down = λ e. no-ft (expire-not-down (recordAt x s .phase) (not (recordAt x s .killed)) (m .which) e);
             starting = λ e. no-ft e;

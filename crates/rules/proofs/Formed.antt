@@ -113,7 +113,7 @@ sound-state t x h =
     and-true (leb (x .clock) lastClock) _ .1 (
       le-leb _ _ (h .clock),
       every-true (λ s. timesInRange (x .clock) (recordAt x s) && shapedAt t x s) (t .count) .1
-      (λ s l. and-true (timesInRange (x .clock) (recordAt x s)) _ .1 (timely (x .clock) (recordAt x s) .1 (h .times s l), h .shapes s l)),
+          (λ s l. and-true (timesInRange (x .clock) (recordAt x s)) _ .1 (timely (x .clock) (recordAt x s) .1 (h .times s l), h .shapes s l)),
     )
 
 -- ---- numbers

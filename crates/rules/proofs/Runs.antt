@@ -102,7 +102,8 @@ read-back t x ss as′ r q =
     listed-as _ _ (stepsToQuiet t x)
     (λ i l.
     let n : stepsToQuiet t x ≤ 4 * t .count = steps-within t x in
-    rw
-    (written-at (λ k. actionService (actionAfter t x k)) ss (stepsToQuiet t x) (le-trans n r) i l,
-    written-at (λ k. actionNumber (actionAfter t x k)) as′ (stepsToQuiet t x) (le-trans n q) i l,
-    action-back (actionAfter t x i) (steps-loud t x i l)))
+    rw (
+      written-at (λ k. actionService (actionAfter t x k)) ss (stepsToQuiet t x) (le-trans n r) i l,
+      written-at (λ k. actionNumber (actionAfter t x k)) as′ (stepsToQuiet t x) (le-trans n q) i l,
+      action-back (actionAfter t x i) (steps-loud t x i l),
+    ))

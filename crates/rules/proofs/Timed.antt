@@ -89,7 +89,7 @@ module _ (t : Table) (few : t .count ≤ maxServices) (nz : NoZeroTimeout t) whe
       λ e. (
         x .clock + settingsAt t s .«start_timeout»,
         scripted-deadline (settingsAt t s .kind) (deadlineIn (x .clock) (settingsAt t s .«start_timeout»)) (recordAt x s .deadline) (begun-timing (settingsAt t s .kind) e)
-        ∙ deadline-set (x .clock) (settingsAt t s .«start_timeout») (nz s l .0),
+            ∙ deadline-set (x .clock) (settingsAt t s .«start_timeout») (nz s l .0),
       )
   leaves-timed x s End l f h = λ e. (x .clock + settingsAt t s .«stop_timeout», deadline-set (x .clock) (settingsAt t s .«stop_timeout») (nz s l .1))
   leaves-timed x s Expire l f h = λ e. go (isStarting (recordAt x s .phase))
