@@ -11,14 +11,14 @@ use Rattle.text.specs.Lines.{lineOf, linesOf, badFrom, lineFrom, lineNumber, op
 use Rattle.text.specs.declared.Verdict.{Verdict}
 use Rattle.text.specs.declared.Verdict.the-variants.{Good, Bad}
 use Rattle.value.specs.Steps.{stepOf, bareStep}
-use Rattle.value.specs.Values.{faultFrom, marksFrom, sizesFrom, scanOf, written, wordOf}
+use Rattle.value.specs.Values.{faultFrom, marksFrom, sizesFrom, scanOf, written, leading, wordOf}
 use Rattle.word.specs.Words.{flagOf, noOf, kindOf, signalNames, signalOf, nameBytes, isName}
 use Rattle.word.specs.Decimals.{digitOf, readOf, decimalFrom, timeEnd, timeOf, countEnd, countOf}
 use Rattle.word.specs.Properties.{propertyNames, propertyOf, settingOf}
 use Rattle.description.specs.declared.Read.{Read}
 use Rattle.description.specs.Settings.{valueAt, wordAt, known}
 use Rattle.description.specs.Lines.{dependencyRead, wordRead, tokensRead, propertyRead, lineRead}
-use Rattle.description.specs.Texts.{completed, linesRead, textRead}
+use Rattle.description.specs.Texts.{completion, linesRead, textRead}
 
 -- a text with the verdict on it, and the line of the offset in it
 pub record Example : Type 0 where
@@ -86,5 +86,5 @@ abbrev given : Example → Outcome
 given e = record { verdict = e .verdict; line = e .line }
 
 pub examples-hold : map outcome examples ≡ map given examples
-unfolding some bytes same indexFrom partOf run lineOf linesOf badFrom lineFrom lineNumber opening stepOf bareStep faultFrom marksFrom sizesFrom scanOf written wordOf flagOf noOf kindOf signalNames signalOf nameBytes isName digitOf readOf decimalFrom timeEnd timeOf countEnd countOf propertyNames propertyOf settingOf valueAt wordAt known dependencyRead wordRead tokensRead propertyRead lineRead completed linesRead textRead
+unfolding some bytes same indexFrom partOf run lineOf linesOf badFrom lineFrom lineNumber opening stepOf bareStep faultFrom marksFrom sizesFrom scanOf written leading wordOf flagOf noOf kindOf signalNames signalOf nameBytes isName digitOf readOf decimalFrom timeEnd timeOf countEnd countOf propertyNames propertyOf settingOf valueAt wordAt known dependencyRead wordRead tokensRead propertyRead lineRead completion linesRead textRead
 examples-hold = refl

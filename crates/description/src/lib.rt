@@ -1,4 +1,5 @@
 // One description: its lines read in turn to settings, with the dependencies that it names.
+use text::Fault;
 use text::Verdict;
 
 // How many dependencies a service may have.
@@ -19,6 +20,19 @@ pub struct Description {
     pub values: [u64; PROPERTIES],
     pub count: usize,
     pub dependencies: [Dependency; MAX_DEPENDENCIES],
+}
+
+// What a line does: nothing, a setting of a property, or a dependency more by a property, whose value begins at an offset.
+pub enum Effect {
+    Nothing,
+    Setting(usize, u64),
+    Dependency(usize, usize),
+}
+
+// What the line reader answers.
+pub enum Line {
+    Good(Effect),
+    Bad(Fault),
 }
 
 // The settings so far, and whether all is good.

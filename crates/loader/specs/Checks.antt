@@ -12,7 +12,7 @@ use Rattle.loader.specs.declared.Answer.the-variants.{Accepted, Refused}
 
 -- the service of a name among the first n, or n where it is none of theirs
 unfoldable pub find : (ℕ → List ℕ) → ℕ → List ℕ → ℕ
-find name n w = first (λ i. same (name i) w) n
+find name n w = first (λ i. same w (name i)) n
 
 -- "all names, 3 then 4 each", from service j on with m left; 4: "a name equals an earlier one"
 unfoldable pub namesFrom : (ℕ → List ℕ) → ℕ → ℕ → Answer

@@ -16,13 +16,13 @@ use Rattle.text.specs.Strings.{bytes, same, indexFrom, partOf}
 use Rattle.text.specs.Bytes.{run}
 use Rattle.text.specs.Lines.{lineOf, linesOf, badFrom, lineFrom, lineNumber, opening}
 use Rattle.value.specs.Steps.{stepOf, bareStep}
-use Rattle.value.specs.Values.{faultFrom, marksFrom, sizesFrom as countFrom, scanOf, written, wordOf}
+use Rattle.value.specs.Values.{faultFrom, marksFrom, sizesFrom as countFrom, scanOf, written, leading, wordOf}
 use Rattle.word.specs.Words.{flagOf, noOf, kindOf, signalNames, signalOf, nameBytes, isName}
 use Rattle.word.specs.Decimals.{digitOf, readOf, decimalFrom, timeEnd, timeOf, countEnd, countOf}
 use Rattle.word.specs.Properties.{propertyNames, propertyOf, settingOf}
 use Rattle.description.specs.Settings.{valueAt, wordAt, known}
 use Rattle.description.specs.Lines.{dependencyRead, wordRead, tokensRead, propertyRead, lineRead}
-use Rattle.description.specs.Texts.{completed, linesRead, textRead}
+use Rattle.description.specs.Texts.{completion, linesRead, textRead}
 use Rattle.loader.specs.declared.Answer.{Answer}
 use Rattle.loader.specs.declared.Answer.the-variants.{Accepted, Refused}
 use Rattle.loader.specs.declared.Commands.{Commands}
@@ -143,9 +143,9 @@ examples =
     []
 
 pub pair-loads : loadOf pair 30 ≡ pairLoaded
-unfolding lentOf endsFrom loadOf some first hasBit reach bytes same indexFrom partOf run lineOf linesOf badFrom lineFrom lineNumber opening stepOf bareStep faultFrom marksFrom countFrom scanOf written wordOf flagOf noOf kindOf signalNames signalOf nameBytes isName digitOf readOf decimalFrom timeEnd timeOf countEnd countOf propertyNames propertyOf settingOf valueAt wordAt known dependencyRead wordRead tokensRead propertyRead lineRead completed linesRead textRead risesTo positioned nameStart nameAt textAt find namesFrom sizesFrom descriptionsFrom linksFrom servicesFrom lowestCyclic commandBytes commandSizes bytesFrom commandsFrom stored acyclic loadSet load
+unfolding lentOf endsFrom loadOf some first hasBit reach bytes same indexFrom partOf run lineOf linesOf badFrom lineFrom lineNumber opening stepOf bareStep faultFrom marksFrom countFrom scanOf written leading wordOf flagOf noOf kindOf signalNames signalOf nameBytes isName digitOf readOf decimalFrom timeEnd timeOf countEnd countOf propertyNames propertyOf settingOf valueAt wordAt known dependencyRead wordRead tokensRead propertyRead lineRead completion linesRead textRead risesTo positioned nameStart nameAt textAt find namesFrom sizesFrom descriptionsFrom linksFrom servicesFrom lowestCyclic commandBytes commandSizes bytesFrom commandsFrom stored acyclic loadSet load
 pair-loads = refl
 
 pub examples-hold : map (λ e. answerOf (e .case)) examples ≡ map (λ e. e .answer) examples
-unfolding lentOf endsFrom loadOf answerOf some first hasBit reach bytes same indexFrom partOf run lineOf linesOf badFrom lineFrom lineNumber opening stepOf bareStep faultFrom marksFrom countFrom scanOf written wordOf flagOf noOf kindOf signalNames signalOf nameBytes isName digitOf readOf decimalFrom timeEnd timeOf countEnd countOf propertyNames propertyOf settingOf valueAt wordAt known dependencyRead wordRead tokensRead propertyRead lineRead completed linesRead textRead risesTo positioned nameStart nameAt textAt find namesFrom sizesFrom descriptionsFrom linksFrom servicesFrom lowestCyclic commandBytes commandSizes bytesFrom commandsFrom stored acyclic loadSet load
+unfolding lentOf endsFrom loadOf answerOf some first hasBit reach bytes same indexFrom partOf run lineOf linesOf badFrom lineFrom lineNumber opening stepOf bareStep faultFrom marksFrom countFrom scanOf written leading wordOf flagOf noOf kindOf signalNames signalOf nameBytes isName digitOf readOf decimalFrom timeEnd timeOf countEnd countOf propertyNames propertyOf settingOf valueAt wordAt known dependencyRead wordRead tokensRead propertyRead lineRead completion linesRead textRead risesTo positioned nameStart nameAt textAt find namesFrom sizesFrom descriptionsFrom linksFrom servicesFrom lowestCyclic commandBytes commandSizes bytesFrom commandsFrom stored acyclic loadSet load
 examples-hold = refl

@@ -2,7 +2,7 @@
 use mathlib.Core.Path.{_≡_, refl}
 use mathlib.Core.Bool.{Bool, true, false}
 use mathlib.Core.List.{List, [], _∷_, map}
-use Prim.Native.Nat.{ℕ, suc, _+_, _≤_, _<_}
+use Prim.Native.Nat.{ℕ, zero, suc, _+_, _-_, _≤_, _<_, zero-le, suc-le-suc}
 use native.Mathlib.Numerals.{add-one}
 use native.Mathlib.Omega.{arith}
 use lib.Dec.{eqb}
@@ -16,8 +16,8 @@ use Rattle.value.specs.declared.Step.the-variants.{Skip, Quote, Keep, Cl
 use Rattle.value.specs.declared.Sizes.{Sizes}
 use Rattle.value.specs.declared.Scan.{Scan}
 use Rattle.value.specs.declared.Scan.the-variants.{Bad}
-use Rattle.value.specs.Steps.{stepOf}
-use Rattle.value.specs.Values.{Mark, kept, close, ended, onward, faultFrom, marked, marksFrom, byteOf, counted, sizesFrom, scanned}
+use Rattle.value.specs.Steps.{between, stepOf}
+use Rattle.value.specs.Values.{Mark, kept, close, ended, onward, faultFrom, marked, marksFrom, byteOf, counted, sizesFrom, scanned, leading, wordOf}
 
 -- the answer for what is left, from the mode, the last quote, the place and the sizes so far
 abbrev pub scanFrom : Mode → ℕ → ℕ → Sizes → List ℕ → Scan
@@ -112,3 +112,70 @@ fits-end {z} h e =
     let b = h .first in
     let c = h .room in
     rw e (record { tokens = omega arith; first = omega arith; room = omega arith })
+
+-- what is left of a word of which o bytes were read
+abbrev pub wordFrom : Mode → ℕ → List ℕ → List ℕ
+wordFrom m o l = leading (33 - o) (marksFrom m l)
+
+abbrev pub wordOn : Step → ℕ → ℕ → List ℕ → List ℕ
+wordOn (Skip m) o b l = wordFrom m o l
+wordOn (Quote m) o b l = wordFrom m o l
+wordOn (Keep m) o b l = leading (33 - o) (kept b ∷ marksFrom m l)
+wordOn (Close m) o b l = []
+wordOn Malformed o b l = []
+
+leading-close : (n : ℕ) (ks : List Mark) → leading n (close ∷ ks) ≡ []
+unfolding leading
+leading-close zero ks = refl
+leading-close (suc n) ks = refl
+
+leading-none : (n : ℕ) → leading n [] ≡ []
+unfolding leading
+leading-none zero = refl
+leading-none (suc n) = refl
+
+-- a word of full length ends
+pub word-full : (o : ℕ) (ks : List Mark) → 32 < o → leading (33 - o) ks ≡ []
+unfolding leading
+word-full o ks h =
+    let e : 33 - o ≡ 0 = omega arith in
+    rw e
+
+-- any other goes on
+pub word-more : (o b : ℕ) (ks : List Mark) → o ≤ 32 → leading (33 - o) (kept b ∷ ks) ≡ b ∷ leading (33 - (o + 1)) ks
+unfolding leading
+word-more o b ks h =
+    let e : 33 - o ≡ suc (33 - (o + 1)) = omega arith in
+    rw e
+
+module _ (m : Mode) (o : ℕ) (s : List ℕ) (k : ℕ) where
+  pub word-end : length s ≤ k → wordFrom m o (drop k s) ≡ []
+  unfolding marksFrom
+  word-end h = rw (drop-of-length-le s h) (by (m .token))
+    where
+      by : (t : Bool) → leading (33 - o) (pick t (close ∷ []) []) ≡ []
+      by true = leading-close (33 - o) []
+      by false = leading-none (33 - o)
+
+  pub word-next : {r : Step} → k < length s → stepOf m (getD s k 0) ≡ r → wordFrom m o (drop k s) ≡ wordOn r o (getD s k 0) (drop (k + 1) s)
+  unfolding marksFrom
+  word-next {r} h e = rw (add-one k, drop-cons s k 0 h, e) (by r)
+    where
+      by : (r : Step) → leading (33 - o) (marked r (getD s k 0) (λ m′. marksFrom m′ (drop (suc k) s))) ≡ wordOn r o (getD s k 0) (drop (suc k) s)
+      by (Skip n) = refl
+      by (Quote n) = refl
+      by (Keep n) = refl
+      by (Close n) = leading-close (33 - o) (marksFrom n (drop (suc k) s))
+      by Malformed = leading-none (33 - o)
+
+leading-fits : (n : ℕ) (ks : List Mark) → length (leading n ks) ≤ n
+unfolding leading
+leading-fits zero ks = zero-le
+leading-fits (suc n) [] = zero-le
+leading-fits (suc n) (kept b ∷ ks) = suc-le-suc (leading-fits n ks)
+leading-fits (suc n) (close ∷ ks) = zero-le
+
+-- a word takes at most 33 bytes
+pub word-fits : (l : List ℕ) → length (wordOf l) ≤ 33
+unfolding wordOf
+word-fits l = leading-fits 33 (marksFrom between l)

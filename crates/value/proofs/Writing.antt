@@ -1,12 +1,14 @@
 -- What a loop that writes has still to write: E from `a` into d₀ is the same as F from o into d.
 use mathlib.Core.Path.{_≡_, refl, sym, ap, _∙_}
 use mathlib.Core.List.{List, [], _∷_, _++_}
-use Prim.Native.Nat.{ℕ, suc, _+_}
+use Prim.Native.Nat.{ℕ, suc, _+_, _≤_}
 use native.Mathlib.Numerals.{add-one}
-use native.Mathlib.Nat.{add-zero, add-suc, suc-add}
+use native.Mathlib.Nat.{add-zero, zero-add, add-suc, suc-add, sub-zero}
 use native.Mathlib.Omega.{arith}
-use lib.ListN.{length, set, length-set, length-append}
-use lib.Seq.{sets}
+use lib.ListN.{length, drop, set, length-set, length-append}
+use lib.Seq.{sets, sets-eq, length-sets, take-append-seam}
+use borrow.Author.Tests.{le-leb}
+use Rattle.text.specs.Strings.{partOf}
 use Rattle.value.specs.Stores.{Put, Puts}
 
 pub record Left (d₀ : List ℕ) (a : ℕ) (E d : List ℕ) (o : ℕ) (F : List ℕ) : Type 0 where
@@ -45,3 +47,12 @@ puts-then {d} {a} {xs} {ys = ys} p q = record {
   buffer = q .buffer ∙ rw (p .buffer, p .next, sets-append d a xs ys);
   next = q .next ∙ rw (p .next, length-append xs ys) (omega arith);
 }
+
+-- what was stored at the start stands there
+pub puts-part : {d vs d′ : List ℕ} {r : ℕ} → length vs ≤ length d → Puts d 0 vs d′ r → partOf d′ 0 r ≡ vs
+unfolding partOf
+puts-part {d} {vs} {d′} {r} h p =
+    let n : r ≡ length vs = p .next ∙ zero-add (length vs) in
+    let b : d′ ≡ vs ++ drop (length vs) d = p .buffer ∙ sets-eq vs d 0 (omega arith) ∙ ap (λ (k : ℕ). vs ++ drop k d) (zero-add (length vs)) in
+    let l : length d′ ≡ length d = ap length (p .buffer) ∙ length-sets d 0 vs in
+    rw (le-leb 0 r (omega arith), le-leb r (length d′) (omega (arith, n, l)), sub-zero r, n, b) (take-append-seam vs (drop (length vs) d))

@@ -1,9 +1,8 @@
 -- "Value", "Commands are lists of tokens": the first fault of a value, its tokens, and what is told of them.
-use Prim.Native.Nat.{ℕ, _+_, _-_}
+use Prim.Native.Nat.{ℕ, zero, suc, _+_, _-_}
 use mathlib.Core.Bool.{Bool, true, false, _&&_}
 use mathlib.Core.List.{List, [], _∷_, map}
 use lib.Dec.{eqb, leb, ltb}
-use lib.ListN.{length, take}
 use Rattle.base.specs.Folds.{pick}
 use Rattle.text.specs.Lines.{fault}
 use Rattle.text.specs.declared.Verdict.{Verdict}
@@ -96,6 +95,13 @@ longestWord = 32
 abbrev pub isWord : Sizes → Bool
 isWord z = eqb (z .tokens) 1 && ltb 0 (z .first) && leb (z .first) longestWord
 
--- the one token of such a value: it is written first, and a zero byte follows
+-- the bytes before the first end of a token, at most n
+unfoldable pub leading : ℕ → List Mark → List ℕ
+leading zero ks = []
+leading (suc n) [] = []
+leading (suc n) (kept b ∷ ks) = b ∷ leading n ks
+leading (suc n) (close ∷ ks) = []
+
+-- the word that a value begins with: its first token, or the first 33 bytes of one that is too long for a word
 unfoldable pub wordOf : List ℕ → List ℕ
-wordOf l = take (sizesFrom noSizes (marksFrom between l) .first) (written l)
+wordOf l = leading (suc longestWord) (marksFrom between l)

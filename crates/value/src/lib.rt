@@ -5,7 +5,10 @@ ghost use mathlib.Core.Path.{_≡_};
 ghost use Prim.Native.Nat.{_-_, _<_, _≤_};
 ghost use Rattle.value.specs.Steps.{bareStep, quoteStep, stepOf};
 ghost use Rattle.value.specs.Stores.{Put, Puts};
-ghost use Rattle.value.specs.Values.{kept, close, counted, scanOf, written};
+ghost use Rattle.value.specs.Values.{kept, close, counted, scanOf, written, wordOf};
+
+// The longest value that a property which is no command can have.
+pub const LONGEST_WORD: usize = 32;
 
 // Where the reader of a value is: after a backslash, in quotes, in a token, in a comment.
 pub struct Mode {
@@ -275,6 +278,47 @@ pub fn write_value(s: &[u8], dst: &mut [u8]) -> usize
     }
     if m.token {
         return put(dst, o, 0);
+    }
+    o
+}
+
+// Writes the word that a value begins with from the start of dst, and returns its length. What does not fit is dropped.
+pub fn write_word(s: &[u8], dst: &mut [u8]) -> usize
+    ensures { λ r. ⌜ Puts (now (dst .entry)) 0 (wordOf (now (s .entry))) (now (dst .exit)) r ⌝ }
+{
+    let mut m = Mode {
+        escaped: false,
+        quoted: false,
+        token: false,
+        comment: false,
+    };
+    let mut o: usize = 0;
+    let mut i: usize = 0;
+    while i < s.len() {
+        let b = s[i];
+        let after = i + 1;
+        match step_at(m, b) {
+            Step::Skip(k) => {
+                m = k;
+            }
+            Step::Quote(k) => {
+                m = k;
+            }
+            Step::Keep(k) => {
+                if LONGEST_WORD < o {
+                    return o;
+                }
+                o = put(dst, o, b);
+                m = k;
+            }
+            Step::Close(k) => {
+                return o;
+            }
+            Step::Malformed => {
+                return o;
+            }
+        }
+        i = after;
     }
     o
 }
