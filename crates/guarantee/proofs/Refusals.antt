@@ -9,14 +9,14 @@ use Rattle.service.specs.Limits.{maxServices}
 use Rattle.service.specs.Settings.{defaultSettings, noServices}
 use Rattle.service.specs.declared.Settings.{Settings}
 use Rattle.description.specs.declared.Description.{Description}
-use Rattle.loader.specs.Checks.{namesFrom, sizesFrom}
+use Rattle.lent.specs.Checks.{namesFrom, sizesFrom}
 use Rattle.loader.specs.Links.{lowestCyclic, servicesFrom}
 use Rattle.loader.specs.Load.{Outcome as LoadOutcome, acyclic, load, loadSet, passed, stored, tested}
-use Rattle.loader.specs.Parts.{nameAt, positioned, serviceCount, textAt}
+use Rattle.lent.specs.Parts.{nameAt, positioned, serviceCount, textAt}
 use Rattle.loader.specs.Texts.{descriptionsFrom, noDescriptions}
 use Rattle.loader.specs.Tokens.{bytesFrom}
-use Rattle.loader.specs.declared.Answer.{Answer as LoadAnswer}
-use Rattle.loader.specs.declared.Answer.the-variants.{Accepted, Refused as LoadRefused}
+use Rattle.lent.specs.declared.Answer.{Answer as LoadAnswer}
+use Rattle.lent.specs.declared.Answer.the-variants.{Accepted, Refused as LoadRefused}
 use Rattle.guarantee.specs.Guarantee.{RefusedLoadLeavesAll}
 
 -- an outcome that is refused is nothing but that
