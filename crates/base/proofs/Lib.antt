@@ -4,5 +4,6 @@ pub mod Loops
 pub mod Sums
 pub mod Bits
 pub mod Sets
+pub mod Words
 pub mod Filled
 pub mod Links
