@@ -46,7 +46,11 @@ fn user_or_fell(user: bool) -> Cause
 fn user_or_failed(c: Cause) -> Cause
     ensures { λ d. ⌜ d ≡ pick (isUser c) User Failed ⌝ }
 {
-    if is_user(c) { Cause::User } else { Cause::Failed }
+    if is_user(c) {
+        Cause::User
+    } else {
+        Cause::Failed
+    }
 }
 
 // Rule 2: down, aside, wanted off.
