@@ -5,31 +5,24 @@
 use crate::case::{Case, Entry, Folder};
 
 pub struct FixedCase {
-    pub name: &'static str,
+    pub name: String,
     pub case: Case,
     pub expected: Vec<u8>,
 }
 
-fn scenario(name: &'static str, input: &str, expected: &str) -> FixedCase {
+fn scenario(name: &str, input: &str, expected: &str) -> FixedCase {
     FixedCase {
-        name,
+        name: name.to_string(),
         case: Case::Scenario(input.as_bytes().to_vec()),
         expected: expected.as_bytes().to_vec(),
     }
 }
 
-fn folder(
-    name: &'static str,
-    input: &str,
-    entries: Vec<(&str, Entry)>,
-    expected: &str,
-) -> FixedCase {
-    let entries = entries
-        .into_iter()
-        .map(|(file, entry)| (file.as_bytes().to_vec(), entry))
-        .collect();
+fn folder(name: &str, input: &str, entries: Vec<(&str, Entry)>, expected: &str) -> FixedCase {
+    let entries =
+        entries.into_iter().map(|(file, entry)| (file.as_bytes().to_vec(), entry)).collect();
     FixedCase {
-        name,
+        name: name.to_string(),
         case: Case::Folder(Folder { input: input.as_bytes().to_vec(), entries }),
         expected: expected.as_bytes().to_vec(),
     }
@@ -53,7 +46,10 @@ pub fn fixed_cases() -> Vec<FixedCase> {
         bad_lines(),
         input_is_cut(),
     ];
-    cases.extend(bad_times());
+    cases.push(list_24());
+    cases.push(good_lines());
+    cases.extend(refused_lines());
+    cases.extend(orders());
     cases.extend(text_limit_scenarios());
     cases.extend(service_limit_scenarios());
     cases.extend(folder_cases());
@@ -100,7 +96,7 @@ fn the_pair() -> FixedCase {
     scenario("the pair", &format!("{PAIR}{calls}"), &format!("{PAIR_LOADED}{answers}"))
 }
 
-fn lone_reader_falls(name: &'static str, fourth: u64, last: &str) -> FixedCase {
+fn lone_reader_falls(name: &str, fourth: u64, last: &str) -> FixedCase {
     let mut calls = String::new();
     let mut answers = String::new();
     for time in [10_000, 20_000, 30_000] {
@@ -109,11 +105,7 @@ fn lone_reader_falls(name: &'static str, fourth: u64, last: &str) -> FixedCase {
     }
     calls.push_str(&format!("clock {fourth}\nend 0 bad\nrun\nstate\n"));
     answers.push_str(&format!("ok\nok\n{last}"));
-    scenario(
-        name,
-        &format!("{LONE_READER}{calls}"),
-        &format!("{LONE_READER_UP}{answers}"),
-    )
+    scenario(name, &format!("{LONE_READER}{calls}"), &format!("{LONE_READER_UP}{answers}"))
 }
 
 fn lone_reader_at_40_000() -> FixedCase {
@@ -196,18 +188,274 @@ fn times() -> FixedCase {
     )
 }
 
-fn bad_times() -> Vec<FixedCase> {
-    let bad = [
-        ("the time 86400.0001", "86400.0001"),
-        ("the time .5", ".5"),
-        ("the time 5.", "5."),
-        ("the time 0.00001", "0.00001"),
+/// Single lines, each the first of a text, and the number it is refused with.
+fn refused_lines() -> Vec<FixedCase> {
+    const LINES: [(u64, &[&str]); 6] = [
+        (6, &["\u{0}", "# \u{8}", "type=\"\u{e}\"", "\u{1f}", "command=a \u{7f}"]),
+        (
+            7,
+            &[
+                "Type=process",
+                "type2=process",
+                "command +=a",
+                "@include x",
+                "depends on: a",
+                "bogus",
+                "=a",
+                "type_=a",
+                "type",
+                "type internal",
+                "command=a#b",
+                "command=\"\"#",
+                "command=a\\ #",
+                "command=\" \"#",
+                "command=\\##",
+                "command=a#\\",
+                "type \\",
+                "\"type\"=a",
+            ],
+        ),
+        (8, &["command=\"", "command=a \"b # c", "command=\"a\\\"", "restart-delay=\"1"]),
+        (9, &["command=\\", "command=\"a\\", "command=a\\\\\\", "type=process\\"]),
+        (10, &["depends-on.d: a", "options=", ".=a", "-:", "typ=a", "types=a", "log-type=\""]),
+        (
+            11,
+            &[
+                "type=",
+                "type=# process",
+                "type=\"\"",
+                "type=process \"\"",
+                "type=process process",
+                "type=bgprocess",
+                "type=triggered",
+                "type=Process",
+                "command=",
+                "command=\"\"",
+                "command=\"\" a",
+                "stop-command=",
+                "stop-command=\"\" a",
+                "restart=Yes",
+                "restart=on-failure",
+                "restart=1",
+                "smooth-recovery=yes",
+                "smooth-recovery=true",
+                "smooth-recovery=",
+                "restart-delay=0086400",
+                "restart-delay=5.00000",
+                "restart-limit-interval=86401",
+                "restart-limit-interval=-1",
+                "start-timeout=1e3",
+                "start-timeout=1.",
+                "start-timeout=",
+                "stop-timeout=+1",
+                "stop-timeout=1 2",
+                "restart-limit-count=65536",
+                "restart-limit-count=000003",
+                "restart-limit-count=1.0",
+                "restart-limit-count=",
+                "term-signal=SIGTERM",
+                "term-signal=term",
+                "term-signal=",
+                "depends-on=",
+                "depends-on=a/b",
+                "depends-ms=a b",
+                "waits-for=\"\"",
+                "waits-for=nnnnnnnnnnnnnnnnnnnnnnnnnnnnnnnnn",
+                "restart-delay=86400.0001",
+                "restart-delay=.5",
+                "restart-delay=5.",
+                "restart-delay=0.00001",
+            ],
+        ),
     ];
-    let case = |(name, time)| {
-        let input = format!("service a\n|type=internal\n|stop-timeout={time}\nload 0\n");
-        scenario(name, &input, "refused 11 service 0 line 2\n")
+    let mut cases = Vec::new();
+    for (number, lines) in LINES {
+        for line in lines {
+            let input = format!("service a\n|{line}\n|type=internal\nload 0\n");
+            let refused = format!("refused {number} service 0 line 1\n");
+            cases.push(scenario(&format!("the line {}", line.escape_debug()), &input, &refused));
+        }
+    }
+    cases
+}
+
+/// Lines of every good form; the last of each property stands.
+fn good_lines() -> FixedCase {
+    let input = "service a\n|# comment\n| \t\u{b}\u{c}\r\n|\n|type=process\n|\ttype : scripted\r\n\
+                 |command=earlier\n\
+                 |command=\"b c\"d \\# e\\\\ \"\" $x # \" \\\n|stop-command = a\\\r\r#x\n\
+                 |restart=true\n|restart = no\n|restart= yes\n|smooth-recovery=no\n\
+                 |smooth-recovery=false\n|restart-delay=000005.5000\n\
+                 |restart-limit-interval=086400\n|start-timeout=\"86400\".0000\n\
+                 |stop-timeout=0.0001\n|restart-limit-count=00003\n|restart-limit-count=65535\n\
+                 |term-signal=none\n|term-signal=US\\R2\n!waits-for=b\nservice b\n\
+                 !type=internal\nload 65536\nshow\n";
+    scenario(
+        "good lines",
+        input,
+        "0 a scripted\n1 b internal\nok 2\n\
+         0 type=scripted restart=yes restart-delay=55000 restart-limit-interval=864000000 \
+         restart-limit-count=65535 start-timeout=864000000 stop-timeout=1 term-signal=USR2 \
+         depends-on= depends-ms= waits-for=1 command=5 stop-command=1\n\
+         1 type=internal restart=no restart-delay=2000 restart-limit-interval=100000 \
+         restart-limit-count=3 start-timeout=600000 stop-timeout=100000 term-signal=TERM \
+         depends-on= depends-ms= waits-for= command=0 stop-command=0\n\
+         tokens 622063640023006\
+         55c0000247800610d00\n",
+    )
+}
+
+/// Two faults each, and the one that paper 01's order puts first. In the
+/// inputs, GOOD stands for a line that makes a text good.
+fn orders() -> Vec<FixedCase> {
+    let many = "service a/b\n".repeat(33);
+    let lines = |count: u64| -> String {
+        (0..count).map(|number| format!("|waits-for=d{number}\n")).collect()
     };
-    bad.into_iter().map(case).collect()
+    let long = format!("!{}\n", "#".repeat(4_097));
+    let cases: [(&str, &[&str], &str); 20] = [
+        ("1 before 3", &[&many], "1 service 0 line 0"),
+        ("4 before 3", &["service a\nservice a\nservice \n"], "4 service 1 line 0"),
+        ("3 before 5", &["service a\n", &long, "service \n"], "3 service 1 line 0"),
+        ("5 before 6", &["service a\n|\u{1}\nservice b\n", &long], "5 service 1 line 0"),
+        ("6 before 7", &["service a\n|bogus\n|\n|# \u{7f}\n"], "6 service 0 line 3"),
+        ("7 before 6", &["service a\n|bogus\nservice b\n|\u{1}\n"], "7 service 0 line 1"),
+        ("14 before 6", &["service a\n|type=process\nservice b\n|\u{1}\n"], "14 service 0 line 0"),
+        ("13 before 14", &["service a\n|stop-command=x\n"], "13 service 0 line 0"),
+        ("10 before 7, 8, 9", &["service a\n|options=a#\"\\\n"], "10 service 0 line 1"),
+        ("7 before 9", &["service a\n|command=a#\\\n"], "7 service 0 line 1"),
+        ("9 before 8", &["service a\n|command=\"a\\\n"], "9 service 0 line 1"),
+        ("8 before 11", &["service a\n|type=\"a\n"], "8 service 0 line 1"),
+        ("11 before 12", &["service a\n", &lines(16), "|waits-for=a/b\n"], "11 service 0 line 17"),
+        ("12 before 13", &["service a\n", &lines(17)], "12 service 0 line 17"),
+        ("13 before 15", &["service a\n|waits-for=b\n"], "13 service 0 line 0"),
+        (
+            "7 before 15",
+            &["service a\nGOOD\n|waits-for=c\nservice b\n|bogus\n"],
+            "7 service 1 line 1",
+        ),
+        (
+            "15 before 16",
+            &["service a\nGOOD\n|depends-on=a\nservice b\nGOOD\n|depends-ms=c\n"],
+            "15 service 1 line 2",
+        ),
+        (
+            "15 by line, and a repeat has its first",
+            &["service a\nGOOD\n|waits-for=c\n|depends-on=b\n|waits-for=c\n"],
+            "15 service 0 line 2",
+        ),
+        (
+            "16 before 25",
+            &["service a\n|type=process\n|command=a\n|waits-for=a\n"],
+            "16 service 0 line 0",
+        ),
+        (
+            "16 names the lowest on a cycle",
+            &[
+                "service a\nGOOD\n|depends-on=b\nservice b\nGOOD\n|depends-ms=c\n",
+                "service c\nGOOD\n|waits-for=b\n",
+            ],
+            "16 service 1 line 0",
+        ),
+    ];
+    cases
+        .into_iter()
+        .map(|(name, services, refused)| {
+            let services = services.concat().replace("GOOD", "|type=internal");
+            let input = format!("{services}load 0\n");
+            scenario(&format!("order: {name}"), &input, &format!("refused {refused}\n"))
+        })
+        .collect()
+}
+
+/// Each clause of list 24 just inside and just outside. `stop 99` is refused
+/// with 20 where list 24 passes and with 24 where it doesn't, and never
+/// changes the state. Services: 0 process, 1 scripted, 2 internal; 1 hard on 0.
+fn list_24() -> FixedCase {
+    let mut input = "service p\n|type=process\n|command=p\nservice s\n|type=scripted\n\
+                     |command=s\n|depends-on=p\nservice i\n|type=internal\nload 4\nset clock 50\n"
+        .to_string();
+    let mut expected = "0 p process\n1 s scripted\n2 i internal\nok 3\nok\n".to_string();
+    let probes: [(&[&str], u64); 69] = [
+        (&["table count 32"], 20),
+        (&["table count 33"], 24),
+        (&["table count 18446744073709551615"], 24),
+        (&["table count 3", "table 2 waits-for 3"], 20),
+        (&["table 2 waits-for 4"], 24),
+        (&["table 2 waits-for 8"], 24),
+        (&["table 2 waits-for 9223372036854775808"], 24),
+        (&["table 2 waits-for 0", "table 3 waits-for 8"], 20),
+        (&["table 0 depends-ms 2"], 24),
+        (&["table 0 depends-ms 4"], 20),
+        (&["table 2 waits-for 2"], 24),
+        (&["table 2 waits-for 0", "table 0 depends-ms 0"], 20),
+        (&["table 0 restart-delay 864000000"], 20),
+        (&["table 0 restart-delay 864000001"], 24),
+        (&["table 0 restart-delay 0", "table 1 restart-limit-interval 864000000"], 20),
+        (&["table 1 restart-limit-interval 864000001"], 24),
+        (&["table 1 restart-limit-interval 0", "table 2 restart-limit-count 65535"], 20),
+        (&["table 2 restart-limit-count 65536"], 24),
+        (&["table 2 restart-limit-count 0", "table 2 start-timeout 864000000"], 20),
+        (&["table 2 start-timeout 864000001"], 24),
+        (&["table 2 start-timeout 0", "table 1 stop-timeout 864000000"], 20),
+        (&["table 1 stop-timeout 864000001"], 24),
+        (&["table 1 stop-timeout 0", "table 3 stop-timeout 864000001"], 20),
+        (&["set clock 281474976710656"], 20),
+        (&["set clock 281474976710657"], 24),
+        (&["set clock 50", "set 0 last-launch 50"], 20),
+        (&["set 0 last-launch 51"], 24),
+        (&["set 0 last-launch 0", "set 1 window-start 50"], 20),
+        (&["set 1 window-start 51"], 24),
+        (&["set 1 window-start 0", "set 2 deadline 281475840710656"], 20),
+        (&["set 2 deadline 281475840710657"], 24),
+        (&["set 2 deadline none", "set 0 not-before 281475840710656"], 20),
+        (&["set 0 not-before 281475840710657"], 24),
+        (&["set 0 not-before 0", "set 1 restarts 65535"], 20),
+        (&["set 1 restarts 65536"], 24),
+        (&["set 1 restarts 0", "set 3 restarts 65536", "set 3 live 1"], 20),
+        (&["set 0 live 1"], 24),
+        (&["set 0 live 0", "set 0 cause user"], 24),
+        (&["set 0 cause none", "set 0 phase waiting"], 20),
+        (&["set 0 live 1"], 24),
+        (&["set 0 live 0", "set 0 cause fell"], 24),
+        (&["set 0 phase starting"], 24),
+        (&["set 0 live 1"], 24),
+        (&["set 0 phase up"], 20),
+        (&["set 0 live 0"], 20),
+        (&["set 0 cause none"], 24),
+        (&["set 0 live 1"], 20),
+        (&["set 0 phase ending"], 24),
+        (&["set 0 cause released"], 20),
+        (&["set 0 live 0"], 24),
+        (&["set 0 phase down", "set 0 cause none"], 20),
+        (&["set 1 phase starting"], 24),
+        (&["set 1 live 1"], 20),
+        (&["set 1 cause failed"], 20),
+        (&["set 1 phase up"], 24),
+        (&["set 1 live 0"], 20),
+        (&["set 1 cause none"], 20),
+        (&["set 1 phase ending"], 24),
+        (&["set 1 live 1"], 24),
+        (&["set 1 cause user"], 20),
+        (&["set 1 phase down", "set 1 cause none", "set 1 live 0"], 20),
+        (&["set 2 phase up"], 20),
+        (&["set 2 cause fell"], 20),
+        (&["set 2 live 1"], 24),
+        (&["set 2 phase starting"], 24),
+        (&["set 2 phase ending"], 20),
+        (&["set 2 cause none"], 24),
+        (&["set 2 phase down", "set 2 live 0"], 20),
+        (&["set 2 wanted 1", "set 2 aside 1", "set 2 killed 1", "set 2 deadline 0"], 20),
+    ];
+    for (lines, number) in probes {
+        for line in lines {
+            input.push_str(&format!("{line}\n"));
+            expected.push_str("ok\n");
+        }
+        input.push_str("stop 99\n");
+        expected.push_str(&format!("refused {number}\n"));
+    }
+    scenario("list 24, each clause inside and outside", &input, &expected)
 }
 
 fn values() -> FixedCase {
@@ -236,12 +484,12 @@ fn lent_positions() -> FixedCase {
         "lent positions: odd, falling, not at the end, none",
         "load 0 -\nload 0\nload 0 0\nload 0 0 0\nservice a\n|type=internal\nload 0\n\
          load 0 1 15\nload 0 1\nload 0 1 14\nload 0 1 16\nload 0 15 1\nload 0 -\nload 0 1 1 1 15\n\
-         load 0 18446744073709551615 15\nshow\n",
+         load 0 18446744073709551615 15\nshow\nservice a/b\nload 0 1\n",
         "ok 0\nok 0\nrefused 2 service 0 line 0\nrefused 3 service 0 line 0\n\
          0 a internal\nok 1\n0 a internal\nok 1\nrefused 2 service 0 line 0\n\
          refused 2 service 0 line 0\nrefused 2 service 0 line 0\nrefused 2 service 0 line 0\n\
          refused 2 service 0 line 0\nrefused 3 service 1 line 0\nrefused 2 service 0 line 0\n\
-         bad line 16\n",
+         bad line 16\nrefused 2 service 0 line 0\n",
     )
 }
 
@@ -256,8 +504,9 @@ fn lent_room() -> FixedCase {
 fn bad_lines() -> FixedCase {
     scenario(
         "bad lines",
-        "|x\n!x\nservice\nnext\nservice a\n|type=internal\nload\nload 65537\nload 00000000000000000000\n\
-         load 000000000000000000000\nnext\r\nnext \n next\nstart  0\nstart 18446744073709551616\n\
+        "|x\n!x\nservice\nnext\nservice a\n|type=internal\nload\nload 65537\n\
+         load 00000000000000000000\nload 000000000000000000000\nnext\r\nnext \n next\n\
+         start  0\nstart 18446744073709551616\n\
          start 18446744073709551615\nrun 4\nrun 257 4\nrun 3 4\nrun 4 4\n% says nothing\n\n\
          set 32 live 0\nset 0 live 2\nset 0 live 00\nset 0 phase Up\nset 00 deadline 0\n\
          end 0 fine\nend 0 good\nquery\nclock 281474976710657\nclock 281474976710656\nclock 5\n",
@@ -391,6 +640,12 @@ fn folder_cases() -> Vec<FixedCase> {
         ),
         folder("33 names", &many, vec![], "refused 1 service 0 line 0\n"),
         folder("a long name", &format!("{long}y\n"), vec![], "refused 3 service 0 line 0\n"),
+        folder(
+            "names are read from the first 65,536 bytes",
+            &format!("{}\n{}", "x".repeat(65_536), "a\n".repeat(40)),
+            vec![],
+            "refused 3 service 0 line 0\n",
+        ),
         folder("a repeated name", "a\nb\na\n", vec![], "refused 4 service 2 line 0\n"),
         folder(
             "a file of 4,096 bytes",

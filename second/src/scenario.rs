@@ -192,10 +192,8 @@ impl Loaded {
                 Err(refused) => refusal(refused),
             },
             [b"run"] => self.run(LARGEST_SLICE, LARGEST_SLICE),
-            [b"run", first, second] => self.run(
-                number_at_most(first, LARGEST_SLICE)?,
-                number_at_most(second, LARGEST_SLICE)?,
-            ),
+            [b"run", first, second] => self
+                .run(number_at_most(first, LARGEST_SLICE)?, number_at_most(second, LARGEST_SLICE)?),
             [b"query"] => match engine::query(table, state) {
                 Ok(Some(time)) => line(&format!("at {time}")),
                 Ok(None) => line("none"),

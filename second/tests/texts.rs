@@ -30,7 +30,8 @@ fn times_are_held_in_units_of_a_tenth_of_a_millisecond() {
     ] {
         assert_eq!(time(word.as_bytes()), Ok(units), "{word}");
     }
-    for word in ["86400.0001", ".5", "5.", "0.00001", "0086400", "5.00000", "", ".", "1.2.3", "+1"] {
+    for word in ["86400.0001", ".5", "5.", "0.00001", "0086400", "5.00000", "", ".", "1.2.3", "+1"]
+    {
         assert_eq!(time(word.as_bytes()), Err(11), "{word}");
     }
 }

@@ -7,3 +7,4 @@ pub mod Sets
 pub mod Words
 pub mod Filled
 pub mod Links
+pub mod Lists

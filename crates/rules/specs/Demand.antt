@@ -205,8 +205,8 @@ nowAfter t n c = record {
 
 -- calls, none of them an accepted start, and where they lead
 pub data Stretch (t : Table) : Now → List Call → Now → Type 0 where
-  stay : {n : Now} → Stretch t n [] n
-  go : {n n′ : Now} {cs : List Call} (c : Call) → (isStart c && accepted t (n .state) c) ≡ false
+  empty : {n : Now} → Stretch t n [] n
+  call : {n n′ : Now} {cs : List Call} (c : Call) → (isStart c && accepted t (n .state) c) ≡ false
       → Stretch t (nowAfter t n c) cs n′ → Stretch t n (c ∷ cs) n′
 
 -- "Actions go to quiet by an accepted run, or singly with no event between": the last answer is quiet
@@ -237,8 +237,8 @@ pub data Round (t : Table) : Now → List Call → Now → Type 0 where
 
 -- "each begun after the one before has ended"
 pub data Rounds (t : Table) : ℕ → Now → List Call → Now → Type 0 where
-  none : {n : Now} → Rounds t 0 n [] n
-  more : {k : ℕ} {n n′ n″ : Now} {cs ds : List Call} → Rounds t k n cs n′ → Round t n′ ds n″ → Rounds t (suc k) n (cs ++ ds) n″
+  no-rounds : {n : Now} → Rounds t 0 n [] n
+  another : {k : ℕ} {n n′ n″ : Now} {cs ds : List Call} → Rounds t k n cs n′ → Round t n′ ds n″ → Rounds t (suc k) n (cs ++ ds) n″
 
 unfoldable pub nowAt : Table → Now → List Call → Now
 nowAt t n [] = n
@@ -275,3 +275,26 @@ RestsEverywhere = (t : Table) (x : State) → length (x .records) ≡ maxService
 -- every state that a list reaches passes 24, so that a refusal is always the caller's fault
 abbrev pub AlwaysFormed : Type 0
 AlwaysFormed = (t : Table) → tableFormed t ≡ true → (cs : List Call) → formed t (afterCalls t freshState cs) ≡ true
+
+-- ---- WHAT THE STATEMENT RESTS ON, and where it stands
+--
+-- Proved in proofs/Demand.antt (demand3), proofs/Resting.antt (rests-everywhere), proofs/Formed.antt (always-formed);
+-- inhabited in proofs/Sample.antt (sample, sample-down).
+--
+-- here              Mark, killsBy, deadlineKill, readBack, marksOf, marks, story; Set, nobody, with, without, recorded, sent, fed;
+--                   ActsOn, Clear, Safe; isRefused, isEvent, isStart, accepted, eventless, isAction, actionsIn, Rests;
+--                   Now, freshNow, nowAfter, nowAt, Stretch, ToQuiet, Reported, Round, Rounds, WoundDown, NoZeroTimeout, Holds
+-- Calls.antt        Call, Answer, Outcome, lentServices, lentActions, gives, check, outcome, afterCalls
+-- Runs.antt         stateAfter, actionAfter, stepsToQuiet, written, writtenServices, writtenActions, above, sooner, earliest
+-- Rules.antt        running, nothingToEnd, due, deadlineIn, fits; lostToUser, abandoned, withPhase, released, begun.., ending, expired,
+--                   leaves; begunAction, termAction, endAction, hands; rules, chosenFrom, chosen, act, actOn, nextAction
+-- Events.antt       each, startReaches, revivedCause, startedAs, afterStart; stoppedPhase, stopped, afterStop, afterStopAll; dead,
+--                   startedUp, withCause, endedAs, afterEnd; afterClock
+-- Settling.antt     windowOver, windowNow, countNow, limitReached, settledWanted, settledAside, settledNotBefore, settledWindow,
+--                   settledCount, settledAs, settled
+-- WellFormed.antt   linksInside, settingsInRange, tableFormed, deadlineInRange, timesInRange, shaped, shapedAt, stateFormed, formed
+-- Dependencies.antt hardLinks, strongLinks, allLinks, hard, strong, soft, depends, serving, closing, barred, blocked, needed
+-- service           the declared types (src/lib.rt); Limits, Settings (settingsAt, isProcess, isScripted), Records (isDown .. isUser, active,
+--                   freshRecord, freshState, recordAt, withRecord), Numbers (signalAt, isQuiet, actionService, actionNumber, actionOf)
+-- base              Folds (pick, implies, fold, some, every, firstFrom, first, listed), Sets (hasBit, within), Links (Path, through, reach, cyclic)
+-- the library       lists (getD, set, length, replicate), numbers and their tests (leb, ltb, eqb, bitOr), Bool

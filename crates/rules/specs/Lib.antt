@@ -7,3 +7,5 @@ pub mod Runs
 pub mod Calls
 pub mod Demand
 pub mod Worked
+pub mod Readings
+pub mod Examples

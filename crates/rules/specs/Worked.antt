@@ -1,27 +1,25 @@
 -- "Reader and averager, on both sides": the worked examples of paper 01 that it marks P, one table and one statement.
-use Prim.Native.Nat.{ℕ, _*_}
-use mathlib.Core.Path.{_≡_, refl}
-use mathlib.Core.Bool.{Bool, true, false}
-use mathlib.Core.List.{List, [], _∷_}
+use Prim.Native.Nat.{ℕ}
 use lib.ListN.{replicate}
-use Rattle.base.specs.Folds.{some, every, first}
+use mathlib.Core.Bool.{false, true}
+use mathlib.Core.List.{List, [], _∷_}
+use mathlib.Core.Path.{_≡_, refl}
+use Rattle.base.specs.Folds.{every, first, some}
+use Rattle.base.specs.Links.{cyclic, reach}
 use Rattle.base.specs.Sets.{hasBit, within}
-use Rattle.base.specs.Links.{reach, cyclic}
+use Rattle.service.specs.Records.{freshState, recordAt, withRecord}
+use Rattle.service.specs.Settings.{defaultSettings, settingsAt}
+use Rattle.service.specs.declared.Action.the-variants.{Launch, Moved, Quiet, Signal}
 use Rattle.service.specs.declared.Kind.the-variants.{Process}
-use Rattle.service.specs.declared.Signal.the-variants.{Term}
-use Rattle.service.specs.declared.Action.the-variants.{Quiet, Moved, Launch, Signal}
 use Rattle.service.specs.declared.Settings.{Settings}
+use Rattle.service.specs.declared.Signal.the-variants.{Term}
 use Rattle.service.specs.declared.State.{State}
 use Rattle.service.specs.declared.Table.{Table}
-use Rattle.service.specs.Limits.{maxServices}
-use Rattle.service.specs.Settings.{settingsAt, defaultSettings}
-use Rattle.service.specs.Records.{recordAt, withRecord, freshState}
-use Rattle.rules.specs.Dependencies.{hardLinks, strongLinks, allLinks, hard, strong, soft, depends, blocked, needed}
-use Rattle.rules.specs.WellFormed.{tableFormed, shapedAt, stateFormed, formed}
-use Rattle.rules.specs.Events.{each, startReaches, afterStart, afterStop, afterStopAll, endedAs, afterEnd, afterClock}
-use Rattle.rules.specs.Rules.{due, fits, lostToUser, leaves, hands, chosenFrom, chosen, act, actOn, nextAction}
-use Rattle.rules.specs.Runs.{stateAfter, actionAfter, stepsToQuiet, written, writtenServices, writtenActions, earliest}
-use Rattle.rules.specs.Calls.{Call, start, stop, clock, end, stopAll, next, query, run, Answer, refused, done, acted, ran, told, check, outcome}
+use Rattle.rules.specs.Calls.{Answer, Call, acted, check, clock, done, end, next, outcome, start}
+use Rattle.rules.specs.Dependencies.{allLinks, blocked, depends, hard, hardLinks, needed, soft, strong, strongLinks}
+use Rattle.rules.specs.Events.{afterClock, afterEnd, afterStart, afterStop, afterStopAll, each, endedAs, startReaches}
+use Rattle.rules.specs.Rules.{act, actOn, chosen, chosenFrom, due, fits, hands, leaves, lostToUser, nextAction}
+use Rattle.rules.specs.WellFormed.{formed, shapedAt, stateFormed, tableFormed}
 
 -- the answers to a list of calls
 unfoldable pub answers : Table → State → List Call → List Answer
@@ -49,8 +47,8 @@ process h = record {
 abbrev pub pair : Table
 pair = record { count = 2; services = process 0 ∷ process 1 ∷ replicate 30 defaultSettings }
 
+-- a worked example: calls from the fresh state of a table, and their answers
 pub data Case : Type 0 where
-  -- calls from the fresh state of a table, and the answers
   played : Table → List Call → List Answer → Case
 
 abbrev pub Passes : Case → Type 0
@@ -60,18 +58,18 @@ abbrev pub AllPass : List Case → Type 0
 AllPass [] = Unit {0}
 AllPass (c ∷ cs) = Passes c × AllPass cs
 
-pairCalls : List Call
-pairCalls =
-    start 1 ∷ next ∷ next ∷ next ∷ next ∷ next
-    ∷ clock 50000 ∷ end 0 false ∷ next ∷ next ∷ next
-    ∷ end 1 true ∷ next ∷ next ∷ next ∷ next ∷ next ∷ next ∷ []
-
-pairAnswers : List Answer
-pairAnswers =
-    done ∷ acted (Moved 1) ∷ acted (Moved 0) ∷ acted (Launch 0) ∷ acted (Launch 1) ∷ acted Quiet
+-- THE TABLE. "Start 1: moved 1, moved 0, launch 0, launch 1, quiet. Clock 50,000, end of 0: moved 1, TERM 1, quiet. End of 1:
+-- moved 0, moved 1, moved 0, launch 0, launch 1, quiet."
+abbrev pub cases : List Case
+cases =
+    played pair
+    (start 1 ∷ next ∷ next ∷ next ∷ next ∷ next ∷ clock 50000 ∷ end 0 false ∷ next ∷ next ∷ next ∷ end 1 true ∷ next ∷ next ∷ next ∷ next ∷ next ∷ next ∷ [])
+    (done ∷ acted (Moved 1) ∷ acted (Moved 0) ∷ acted (Launch 0) ∷ acted (Launch 1) ∷ acted Quiet
     ∷ done ∷ done ∷ acted (Moved 1) ∷ acted (Signal 1 Term) ∷ acted Quiet
-    ∷ done ∷ acted (Moved 0) ∷ acted (Moved 1) ∷ acted (Moved 0) ∷ acted (Launch 0) ∷ acted (Launch 1) ∷ acted Quiet ∷ []
+    ∷ done ∷ acted (Moved 0) ∷ acted (Moved 1) ∷ acted (Moved 0) ∷ acted (Launch 0) ∷ acted (Launch 1) ∷ acted Quiet ∷ [])
+    ∷ []
 
-test : answers pair freshState pairCalls ≡ pairAnswers
-unfolding pairCalls pairAnswers some every first hasBit within reach cyclic settingsAt recordAt withRecord freshState hardLinks strongLinks allLinks hard strong soft depends blocked needed tableFormed shapedAt stateFormed formed each startReaches afterStart afterStop afterStopAll endedAs afterEnd afterClock due fits lostToUser leaves hands chosenFrom chosen act actOn nextAction check outcome answers
-test = refl
+-- THE STATEMENT
+pub worked : AllPass cases
+unfolding answers some every first hasBit within reach cyclic settingsAt recordAt withRecord freshState hardLinks strongLinks allLinks hard strong soft depends blocked needed tableFormed shapedAt stateFormed formed each startReaches afterStart afterStop afterStopAll endedAs afterEnd afterClock due fits lostToUser leaves hands chosenFrom chosen act actOn nextAction check outcome
+worked = (refl, tt)

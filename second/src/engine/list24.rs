@@ -75,9 +75,9 @@ pub fn has_cycle(table: &Table) -> bool {
     loop {
         let free = table.numbers().find(|number| {
             left[*number]
-                && !table.numbers().any(|other| {
-                    left[other] && table.services[*number].depends_by_any_kind(other)
-                })
+                && !table
+                    .numbers()
+                    .any(|other| left[other] && table.services[*number].depends_by_any_kind(other))
         });
         match free {
             Some(number) => left[number] = false,

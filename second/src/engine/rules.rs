@@ -63,10 +63,7 @@ fn down_and_aside(record: &Record) -> bool {
 fn blocked(table: &Table, state: &State, service: usize) -> bool {
     table.numbers().any(|dependent| {
         table.services[dependent].depends_on.holds[service]
-            && matches!(
-                state.records[dependent].phase,
-                Phase::Starting | Phase::Up | Phase::Ending
-            )
+            && matches!(state.records[dependent].phase, Phase::Starting | Phase::Up | Phase::Ending)
     })
 }
 

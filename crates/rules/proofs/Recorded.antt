@@ -1,0 +1,220 @@
+-- The record of launches, stop commands and reported ends is the set of the services whose live flag is on, and whenever an
+-- action is handed out for a service, nothing that hard-depends on it is in the record.
+use Prim.Native.Nat.{_<_, ℕ}
+use borrow.Author.Tests.{eq-eqb, ne-eqb}
+use lib.Dec.{lit<}
+use mathlib.Core.Bool.{Bool, false, not, true}
+use mathlib.Core.Logic.{_≢_}
+use mathlib.Core.Path.{_∙_, _≡_, refl}
+use native.Mathlib.Nat.{le-trans}
+use Rattle.base.specs.Folds.{pick}
+use Rattle.base.specs.Links.{Path, link, on}
+use Rattle.base.proofs.Tests.{either, no-ft, not-both, not-true, refute}
+use Rattle.service.specs.Records.{active, isStarting, isUp, recordAt, withRecord}
+use Rattle.service.specs.Settings.{isScripted, settingsAt}
+use Rattle.service.specs.declared.Action.{Action}
+use Rattle.service.specs.declared.Action.the-variants.{Signal}
+use Rattle.service.specs.declared.Kind.{Kind}
+use Rattle.service.specs.declared.Kind.the-variants.{Internal, Process, Scripted}
+use Rattle.service.specs.declared.Signal.{Signal as SignalName}
+use Rattle.service.specs.declared.Signal.the-variants.{Hup, Int, Kill, None as NoSignal, Quit, Term, Usr1, Usr2}
+use Rattle.service.specs.declared.State.{State}
+use Rattle.service.specs.declared.Table.{Table}
+use Rattle.service.proofs.Named.{is-waiting}
+use Rattle.service.proofs.States.{with-all}
+use Rattle.rules.specs.Demand.{ActsOn, Clear, Set, handed, recorded, with, without}
+use Rattle.rules.specs.Dependencies.{hard, hardLinks}
+use Rattle.rules.specs.Rules.{act, begunAction, begunLive, endAction, fits, hands, leaves, nextAction, nothingToEnd, termAction}
+use Rattle.rules.specs.WellFormed.{shapedAt}
+use Rattle.rules.specs.declared.Rule.{Rule}
+use Rattle.rules.specs.declared.Rule.the-variants.{Abandon, Begin, End, Expire, Lose, Release, Settle, Wake}
+use Rattle.rules.proofs.Fitting.{begin-fits, end-fits, expire-fits, settle-fits}
+use Rattle.rules.proofs.Held.{Held, Kept, kept-rule, unblocked}
+use Rattle.rules.proofs.Links.{TableSound, hard-inside}
+use Rattle.rules.proofs.Next.{Before, next-either, place}
+use Rattle.rules.proofs.Shapes.{end-lives, expire-not-up, inactive-dead, up-active}
+
+module _ (t : Table) (ts : TableSound t) where
+  pub record Good (v : Set) (x : State) : Type 0 where
+    pub kept : Kept t ts x
+    pub same : (s : ℕ) → s < t .count → v s ≡ recordAt x s .live
+
+-- ---- what an action does to the record
+
+pub with-in : (s : ℕ) (v : Set) → with s v s ≡ true
+with-in s v = rw (eq-eqb s s refl)
+
+pub with-others : (s e : ℕ) (v : Set) → e ≢ s → with s v e ≡ v e
+with-others s e v q = rw (ne-eqb e s q)
+
+pub without-out : (s : ℕ) (v : Set) → without s v s ≡ false
+without-out s v = rw (eq-eqb s s refl)
+
+pub without-others : (s e : ℕ) (v : Set) → e ≢ s → without s v e ≡ v e
+without-others s e v q = rw (ne-eqb e s q)
+
+begun-in : (k : Kind) (v : Set) (s : ℕ) (b l : Bool) → v s ≡ l → recorded (handed (begunAction k s) b) v s ≡ begunLive k l
+begun-in Process v s b l h = with-in s v
+begun-in Scripted v s b l h = with-in s v
+begun-in Internal v s b l h = h
+
+begun-others : (k : Kind) (v : Set) (s e : ℕ) (b : Bool) → e ≢ s → recorded (handed (begunAction k s) b) v e ≡ v e
+begun-others Process v s e b q = with-others s e v q
+begun-others Scripted v s e b q = with-others s e v q
+begun-others Internal v s e b q = refl
+
+begun-on : (k : Kind) (s i : ℕ) → ActsOn (begunAction k s) i → s ≡ i
+begun-on Process s i q = q
+begun-on Scripted s i q = q
+begun-on Internal s i q = absurd q
+
+-- a signal, or none, leaves the record
+term-leaves : (g : SignalName) (s : ℕ) (b : Bool) (v : Set) → recorded (handed (termAction g s) b) v ≡ v
+term-leaves NoSignal s b v = refl
+term-leaves Hup s b v = refl
+term-leaves Int s b v = refl
+term-leaves Term s b v = refl
+term-leaves Quit s b v = refl
+term-leaves Usr1 s b v = refl
+term-leaves Usr2 s b v = refl
+term-leaves Kill s b v = refl
+
+term-on : (g : SignalName) (s i : ℕ) → ActsOn (termAction g s) i → s ≡ i
+term-on NoSignal s i q = absurd q
+term-on Hup s i q = q
+term-on Int s i q = q
+term-on Term s i q = q
+term-on Quit s i q = q
+term-on Usr1 s i q = q
+term-on Usr2 s i q = q
+term-on Kill s i q = q
+
+end-in : (k : Kind) (g : SignalName) (v : Set) (s : ℕ) (b : Bool) → (isScripted k ≡ false → v s ≡ true) → recorded (handed (endAction k g s) b) v s ≡ true
+end-in Process g v s b h = rw (term-leaves g s b v) (h refl)
+end-in Scripted g v s b h = with-in s v
+end-in Internal g v s b h = h refl
+
+end-others : (k : Kind) (g : SignalName) (v : Set) (s e : ℕ) (b : Bool) → e ≢ s → recorded (handed (endAction k g s) b) v e ≡ v e
+end-others Process g v s e b q = rw (term-leaves g s b v)
+end-others Scripted g v s e b q = with-others s e v q
+end-others Internal g v s e b q = refl
+
+end-on : (k : Kind) (g : SignalName) (s i : ℕ) → ActsOn (endAction k g s) i → s ≡ i
+end-on Process g s i q = term-on g s i q
+end-on Scripted g s i q = q
+end-on Internal g s i q = absurd q
+
+expired-leaves : (a : Bool) (s : ℕ) (b : Bool) (v : Set) → recorded (handed (pick a (Signal s Int) (Signal s Kill)) b) v ≡ v
+expired-leaves true s b v = refl
+expired-leaves false s b v = refl
+
+expired-on : (a : Bool) (s i : ℕ) → ActsOn (pick a (Signal s Int) (Signal s Kill)) i → s ≡ i
+expired-on true s i q = q
+expired-on false s i q = q
+
+-- ---- along a chain of hard dependencies
+
+module _ (t : Table) (ts : TableSound t) (x : State) (inv : Held t x) where
+  -- what an active service hard-depends on, directly or through others, is up, and a direct dependent of it is active
+  chain : {e d : ℕ} → e < t .count → Path (hardLinks t) e d → active (recordAt x e .phase) ≡ true
+      → (isUp (recordAt x d .phase) ≡ true) × ((m : ℕ) × (m < t .count) × (hard t m d ≡ true) × (active (recordAt x m .phase) ≡ true))
+  unfolding hard
+  chain {e} {d} el (link h) a = let dl = hard-inside t ts e d el h in (inv e d el dl h a, (e, el, h, a))
+  chain {e} {d} el (on {k = k} h p) a =
+      let kl = hard-inside t ts e k el h in chain kl p (up-active (recordAt x k .phase) (inv e k el kl h a))
+
+module _ (t : Table) (ts : TableSound t) (v : Set) (x : State) (g : Good t ts v x) where
+  -- a service that is neither starting, up nor ending is not in the record
+  absent : (e : ℕ) → e < t .count → (active (recordAt x e .phase) ≡ true → ⊥) → v e ≡ false
+  unfolding shapedAt
+  absent e el h =
+      g .same e el
+      ∙ not-true (recordAt x e .live) .0
+      (inactive-dead (settingsAt t e .kind) (recordAt x e .phase) (recordAt x e .live) (recordAt x e .cause) (g .kept .sound .shapes e el)
+      (not-true (active (recordAt x e .phase)) .1 (refute (active (recordAt x e .phase)) h)))
+
+  module _ (s : ℕ) (l : s < t .count) where
+    -- nothing that hard-depends on s is active, so nothing that does is in the record
+    clear-of : ((e : ℕ) → e < t .count → Path (hardLinks t) e s → active (recordAt x e .phase) ≡ true → ⊥)
+        → (a : Action) (b : Bool) → ((i : ℕ) → ActsOn a i → s ≡ i) → Clear t v (handed a b)
+    clear-of h a b f i e q el p =
+        let p′ : Path (hardLinks t) e s = rw (f i q) p in
+        absent e el (h e el p′)
+
+    pub rule-clear : (k : Rule) (b : Bool) → fits k t x s ≡ true → Clear t v (handed (hands k t x s) b)
+    unfolding hands
+    rule-clear Lose b f = λ i e q. absurd q
+    rule-clear Abandon b f = λ i e q. absurd q
+    rule-clear Settle b f = λ i e q. absurd q
+    rule-clear Wake b f = λ i e q. absurd q
+    rule-clear Release b f = λ i e q. absurd q
+    rule-clear Begin b f =
+        let m = begin-fits t x s .0 f in
+        clear-of (λ e el p a. no-ft (rw (is-waiting (recordAt x s .phase) (m .waits)) at (chain t ts x (g .kept .held) el p a .0)))
+        (hands Begin t x s) b (begun-on (settingsAt t s .kind) s)
+    rule-clear End b f =
+        let m = end-fits t x s .0 f in
+        clear-of (λ e el p a. let c = chain t ts x (g .kept .held) el p a .1 in unblocked t x s .0 (m .unblocked) (c .0) (c .1) (c .2) (c .3))
+        (hands End t x s) b (end-on (settingsAt t s .kind) (settingsAt t s .signal) s)
+    rule-clear Expire b f =
+        let m = expire-fits t x s .0 f in
+        clear-of
+        (λ e el p a. not-both (chain t ts x (g .kept .held) el p a .0) (not-true _ .0 (expire-not-up (recordAt x s .phase) (not (recordAt x s .killed)) (m .which))))
+        (hands Expire t x s) b (expired-on (isStarting (recordAt x s .phase)) s)
+
+    -- what rule 7 ends is not what rule 3 settles, which comes first
+    busy : fits End t x s ≡ true → Before t x (place End) → nothingToEnd (settingsAt t s .kind) (settingsAt t s .«has_stop») (recordAt x s .live) ≡ false
+    busy f b =
+        let m = end-fits t x s .0 f in
+        refute _
+        (λ i. not-both (settle-fits t x s .1 record { up = m .up; caused = m .caused; unblocked = m .unblocked; nothing = i }) (b Settle (lit< tt) s l))
+
+    -- the record tells the live flag of s after the action
+    rule-same : (k : Rule) (b : Bool) → fits k t x s ≡ true → Before t x (place k) → recorded (handed (hands k t x s) b) v s ≡ leaves k t x s .live
+    unfolding hands leaves shapedAt
+    rule-same Lose b f n = g .same s l
+    rule-same Abandon b f n = g .same s l
+    rule-same Settle b f n = g .same s l
+    rule-same Wake b f n = g .same s l
+    rule-same Release b f n = g .same s l
+    rule-same Begin b f n = begun-in (settingsAt t s .kind) v s b (recordAt x s .live) (g .same s l)
+    rule-same End b f n =
+        let m = end-fits t x s .0 f in
+        end-in (settingsAt t s .kind) (settingsAt t s .signal) v s b
+        (λ q.
+        g .same s l
+        ∙ end-lives (settingsAt t s .kind) (recordAt x s .phase) (recordAt x s .live) (recordAt x s .cause) (settingsAt t s .«has_stop»)
+        (g .kept .sound .shapes s l) (m .up) (not-true _ .1 (busy f n)) (not-true _ .1 q))
+    rule-same Expire b f n = rw (expired-leaves (isStarting (recordAt x s .phase)) s b v) (g .same s l)
+
+    rule-others : (k : Rule) (b : Bool) (e : ℕ) → e ≢ s → recorded (handed (hands k t x s) b) v e ≡ v e
+    unfolding hands
+    rule-others Lose b e q = refl
+    rule-others Abandon b e q = refl
+    rule-others Settle b e q = refl
+    rule-others Wake b e q = refl
+    rule-others Release b e q = refl
+    rule-others Begin b e q = begun-others (settingsAt t s .kind) v s e b q
+    rule-others End b e q = end-others (settingsAt t s .kind) (settingsAt t s .signal) v s e b q
+    rule-others Expire b e q = rw (expired-leaves (isStarting (recordAt x s .phase)) s b v)
+
+    pub rule-good : (k : Rule) (b : Bool) → fits k t x s ≡ true → Before t x (place k)
+        → Good t ts (recorded (handed (hands k t x s) b) v) (withRecord x s (leaves k t x s))
+    rule-good k b f n = record {
+      kept = kept-rule t ts x k s (g .kept) l f;
+      same =
+          with-all x s (leaves k t x s) (g .kept .sound .sized) (le-trans l (ts .few)) (t .count)
+          (λ e r. recorded (handed (hands k t x s) b) v e ≡ r .live) (λ e el q. rule-others k b e q ∙ g .same e el) (rule-same k b f n);
+    }
+
+  -- the next action is clear, and leaves a good state
+  pub next-good : (b : Bool) → Clear t v (handed (nextAction t x .action) b) × Good t ts (recorded (handed (nextAction t x .action) b) v) (nextAction t x .state)
+  unfolding act
+  next-good b =
+      either
+      (next-either t x)
+      (λ q. rw (q .does) (λ i e a. absurd a, g))
+      (λ q.
+      let f = q .2 in
+      let l = f .lowest .bound in
+      rw (f .does) (rule-clear (q .1) l (q .0) b (f .lowest .passes), rule-good (q .1) l (q .0) b (f .lowest .passes) (f .before)))

@@ -1,0 +1,225 @@
+-- The second half of demand 3, the bound: along any calls with no accepted event among them at most 4n actions come, and
+-- quiet comes.
+use Prim.Native.Nat.{_*_, _+_, _<_, _≤_, suc, zero, ℕ}
+use borrow.Author.Tests.{leb-true}
+use lib.Dec.{leb, lit≤, ltb}
+use lib.ListN.{length}
+use mathlib.Core.Bool.{Bool, _&&_, false, not, true}
+use mathlib.Core.List.{List, [], _++_, _∷_}
+use mathlib.Core.Path.{_∙_, _≡_, ap, refl, sym}
+use native.Mathlib.Nat.{le-refl}
+use native.Mathlib.Omega.{arith}
+use Rattle.base.specs.Folds.{listed, pick}
+use Rattle.base.proofs.Tests.{and-true, either, no-ft, not-both, not-false, not-true}
+use Rattle.service.specs.Limits.{lastClock}
+use Rattle.service.specs.Numbers.{isQuiet}
+use Rattle.service.specs.Records.{freshState, isStarting, recordAt}
+use Rattle.service.specs.Settings.{settingsAt}
+use Rattle.service.specs.declared.Action.{Action}
+use Rattle.service.specs.declared.Action.the-variants.{Launch, Moved, Quiet, Signal, StopCommand}
+use Rattle.service.specs.declared.Kind.{Kind}
+use Rattle.service.specs.declared.Kind.the-variants.{Internal, Process, Scripted}
+use Rattle.service.specs.declared.Signal.{Signal as SignalName}
+use Rattle.service.specs.declared.Signal.the-variants.{Hup, Int, Kill, None as NoSignal, Quit, Term, Usr1, Usr2}
+use Rattle.service.specs.declared.State.{State}
+use Rattle.service.specs.declared.Table.{Table}
+use Rattle.rules.specs.Calls.{Call, Outcome, afterCalls, check, clock, end, next, outcome, query, run, start, stop, stopAll}
+use Rattle.rules.specs.Demand.{Mark, Rests, RestsEverywhere, accepted, actionsIn, deadlineKill, eventless, handed, isAction, isEvent, isRefused, marks, marksOf, readBack, story}
+use Rattle.rules.specs.Rules.{act, begunAction, endAction, hands, nextAction, termAction}
+use Rattle.rules.specs.Runs.{actionAfter, stateAfter, stepsToQuiet, writtenActions, writtenServices}
+use Rattle.rules.specs.WellFormed.{formed, tableFormed}
+use Rattle.rules.specs.declared.Rule.{Rule}
+use Rattle.rules.specs.declared.Rule.the-variants.{Abandon, Begin, End, Expire, Lose, Release, Settle, Wake}
+use Rattle.rules.proofs.Formed.{always-formed, formed-sound, sound-calls}
+use Rattle.rules.proofs.Links.{table-sound}
+use Rattle.rules.proofs.Next.{Stays, next-either}
+use Rattle.rules.proofs.Rest.{Ends, acts, quiet}
+use Rattle.rules.proofs.Runs.{action-first, action-none, after-first, after-none, read-back, steps-loud}
+use Rattle.rules.proofs.Stages.{ends-within}
+
+-- ---- a quiet answer
+
+begun-loud : (k : Kind) (s : ℕ) → isQuiet (begunAction k s) ≡ false
+begun-loud Process s = refl
+begun-loud Scripted s = refl
+begun-loud Internal s = refl
+
+term-loud : (g : SignalName) (s : ℕ) → isQuiet (termAction g s) ≡ false
+term-loud NoSignal s = refl
+term-loud Hup s = refl
+term-loud Int s = refl
+term-loud Term s = refl
+term-loud Quit s = refl
+term-loud Usr1 s = refl
+term-loud Usr2 s = refl
+term-loud Kill s = refl
+
+end-loud : (k : Kind) (g : SignalName) (s : ℕ) → isQuiet (endAction k g s) ≡ false
+end-loud Process g s = term-loud g s
+end-loud Scripted g s = refl
+end-loud Internal g s = refl
+
+expired-loud : (b : Bool) (s : ℕ) → isQuiet (pick b (Signal s Int) (Signal s Kill)) ≡ false
+expired-loud true s = refl
+expired-loud false s = refl
+
+-- no rule hands out quiet
+pub loud : (k : Rule) (t : Table) (x : State) (s : ℕ) → isQuiet (hands k t x s) ≡ false
+unfolding hands
+loud Lose t x s = refl
+loud Abandon t x s = refl
+loud Settle t x s = refl
+loud Wake t x s = refl
+loud Release t x s = refl
+loud Begin t x s = begun-loud (settingsAt t s .kind) s
+loud End t x s = end-loud (settingsAt t s .kind) (settingsAt t s .signal) s
+loud Expire t x s = expired-loud (isStarting (recordAt x s .phase)) s
+
+-- so where the next action is quiet no rule fits, and the state stays
+pub quiet-stays : (t : Table) (x : State) → isQuiet (nextAction t x .action) ≡ true → Stays t x
+unfolding act
+quiet-stays t x e =
+    either
+    (next-either t x)
+    (λ q. q)
+    (λ q. absurd (not-both (rw (q .2 .does) at e) (loud (q .0) t x (q .1))))
+
+-- ---- refused calls leave all
+
+module _ (t : Table) (x : State) where
+  abbrev Same : Call → Outcome → Type 0
+  Same c o = (o .state ≡ x) × (marksOf t x c (o .answer) (o .services) (o .actions) ≡ [])
+
+  checked : (c : Call) (b : Bool) (k : ℕ) (o : Outcome) → (isRefused (o .answer) ≡ true → Same c o) → isRefused (check c x b k o .answer) ≡ true → Same c (check c x b k o)
+  unfolding check marksOf
+  checked c true k o h = h
+  checked c false k o h = λ _. (refl, refl)
+
+  pub refused-same : (c : Call) → isRefused (outcome t x c .answer) ≡ true → (outcome t x c .state ≡ x) × (marks t x c ≡ [])
+  unfolding outcome marks
+  refused-same (start s) = checked (start s) (formed t x) _ _ (checked (start s) (ltb s (t .count)) _ _ (λ e. no-ft e))
+  refused-same (stop s) = checked (stop s) (formed t x) _ _ (checked (stop s) (ltb s (t .count)) _ _ (λ e. no-ft e))
+  refused-same (clock n) =
+      checked (clock n) (formed t x) _ _ (checked (clock n) (leb (x .clock) n) _ _ (checked (clock n) (leb n lastClock) _ _ (λ e. no-ft e)))
+  refused-same (end s good) =
+      checked (end s good) (formed t x) _ _ (checked (end s good) (ltb s (t .count)) _ _ (checked (end s good) (recordAt x s .live) _ _ (λ e. no-ft e)))
+  refused-same stopAll = checked stopAll (formed t x) _ _ (λ e. no-ft e)
+  refused-same next = checked next (formed t x) _ _ (λ e. no-ft e)
+  refused-same query = checked query (formed t x) _ _ (λ e. no-ft e)
+  refused-same (run ss as′) =
+      checked (run ss as′) (formed t x) _ _
+      (checked (run ss as′) (leb (4 * t .count) (length ss) && leb (4 * t .count) (length as′)) _ _ (λ e. no-ft e))
+
+-- ---- the actions among the marks
+
+actions-append : (ms ns : List Mark) → actionsIn (ms ++ ns) ≡ actionsIn ms + actionsIn ns
+unfolding actionsIn
+actions-append [] ns = omega arith
+actions-append (m ∷ ms) ns = let e = actions-append ms ns in omega arith
+
+at-most-one : (a : Action) (b : Bool) → isAction (handed a b) ≤ 1
+at-most-one Quiet b = lit≤ tt
+at-most-one (Moved s) b = lit≤ tt
+at-most-one (Launch s) b = lit≤ tt
+at-most-one (StopCommand s) b = lit≤ tt
+at-most-one (Signal s g) b = lit≤ tt
+
+actions-listed : (f : ℕ → Action) (b : ℕ → Bool) (n : ℕ) → actionsIn (listed (λ i. handed (f i) (b i)) n) ≤ n
+unfolding actionsIn listed
+actions-listed f b zero = le-refl 0
+actions-listed f b (suc n) =
+    let h = actions-listed (λ i. f (suc i)) (λ i. b (suc i)) n in
+    let o = at-most-one (f 0) (b 0) in
+    omega arith
+
+-- ---- from a bound on single actions to one on calls
+
+module _ (t : Table) where
+  ends-quiet : {f : ℕ} {x : State} → Ends t f x → (k : ℕ) × (k ≤ f) × (actionAfter t x k ≡ Quiet)
+  ends-quiet {f} {x} (quiet e) = (0, omega arith, action-none t x ∙ e)
+  ends-quiet {x = x} (acts e) = let h = ends-quiet e in let l = h .1 in (suc (h .0), omega arith, action-first t x (h .0) ∙ h .2)
+
+  -- k actions, none of them quiet, leave so many fewer
+  runs-end : (k f : ℕ) (x : State) → Ends t f x → ((i : ℕ) → i < k → isQuiet (actionAfter t x i) ≡ false) → (g : ℕ) × Ends t g (stateAfter t x k) × (k + g ≤ f)
+  runs-end zero f x e h = (f, rw (after-none t x) e, omega arith)
+  runs-end (suc k) f x (quiet q) h = absurd (not-both (ap isQuiet (action-none t x ∙ q)) (h 0 (omega arith)))
+  runs-end (suc k) (suc f) x (acts e) h =
+      let r = runs-end k f (nextAction t x .state) e (λ i l. ap isQuiet (sym (action-first t x i)) ∙ h (suc i) (omega arith)) in
+      let l = r .2 in
+      (r .0, rw (after-first t x k) (r .1), omega arith)
+
+  -- what a call that is no accepted event leaves of the bound
+  abbrev Leaves : ℕ → List Mark → State → Type 0
+  Leaves f ms y = (g : ℕ) × Ends t g y × (actionsIn ms + g ≤ f)
+
+  nothing : (f : ℕ) (y : State) → Ends t f y → Leaves f [] y
+  unfolding actionsIn
+  nothing f y e = (f, e, omega arith)
+
+  next-leaves : (f : ℕ) (x : State) → Ends t f x → (b : Bool) → Leaves f (handed (nextAction t x .action) b ∷ []) (nextAction t x .state)
+  unfolding actionsIn
+  next-leaves f x (quiet q) b =
+      let st = quiet-stays t x (ap isQuiet q) in
+      rw (st .does) (f, quiet q, omega arith)
+  next-leaves (suc f) x (acts e) b = (f, e, let o = at-most-one (nextAction t x .action) b in omega arith)
+
+  module _ (f : ℕ) (x : State) (e : Ends t f x) where
+    abbrev LeavesBy : Call → Outcome → Type 0
+    LeavesBy c o = Leaves f (marksOf t x c (o .answer) (o .services) (o .actions)) (o .state)
+
+    passed : (c : Call) (b : Bool) (k : ℕ) (o : Outcome) → (b ≡ true → LeavesBy c o) → LeavesBy c (check c x b k o)
+    unfolding check marksOf
+    passed c true k o h = h refl
+    passed c false k o h = nothing f x e
+
+    run-leaves : (ss as′ : List ℕ) → 4 * t .count ≤ length ss → 4 * t .count ≤ length as′
+        → Leaves f (readBack t x (writtenServices t x ss) (writtenActions t x as′) (stepsToQuiet t x)) (stateAfter t x (stepsToQuiet t x))
+    run-leaves ss as′ a b =
+        let r = runs-end (stepsToQuiet t x) f x e (steps-loud t x) in
+        let l = r .2 in
+        let m = actions-listed (actionAfter t x) (λ i. deadlineKill t (stateAfter t x i)) (stepsToQuiet t x) in
+        rw (read-back t x ss as′ a b) (r .0, r .1, omega arith)
+
+    refusal : (c : Call) → accepted t x c ≡ false → Leaves f (marks t x c) (outcome t x c .state)
+    unfolding accepted
+    refusal c a = let q = refused-same t x c (not-false _ .0 a) in rw (q .0, q .1) (nothing f x e)
+
+    call-leaves : (c : Call) → (isEvent c && accepted t x c) ≡ false → Leaves f (marks t x c) (outcome t x c .state)
+    call-leaves (start s) a = refusal (start s) a
+    call-leaves (stop s) a = refusal (stop s) a
+    call-leaves (clock n) a = refusal (clock n) a
+    call-leaves (end s good) a = refusal (end s good) a
+    call-leaves stopAll a = refusal stopAll a
+    call-leaves next a = unfold marks in unfold outcome in unfold marksOf in passed next (formed t x) _ _ (λ _. next-leaves f x e (deadlineKill t x))
+    call-leaves query a = unfold marks in unfold outcome in unfold marksOf in passed query (formed t x) _ _ (λ _. nothing f x e)
+    call-leaves (run ss as′) a =
+        unfold marks in unfold outcome in unfold marksOf in
+        passed (run ss as′) (formed t x) _ _
+        (λ _.
+        passed (run ss as′) (leb (4 * t .count) (length ss) && leb (4 * t .count) (length as′)) _ _
+        (λ r. let q = and-true (leb (4 * t .count) (length ss)) _ .0 r in run-leaves ss as′ (leb-true _ _ (q .0)) (leb-true _ _ (q .1))))
+
+  few-actions : (cs : List Call) (f : ℕ) (x : State) → Ends t f x → eventless t x cs ≡ true → actionsIn (story t x cs) ≤ f
+  unfolding story eventless
+  few-actions [] f x e h = unfold actionsIn in omega arith
+  few-actions (c ∷ cs) f x e h =
+      let q = and-true (not (isEvent c && accepted t x c)) _ .0 h in
+      let r = call-leaves f x e c (not-true _ .0 (q .0)) in
+      let m = few-actions cs (r .0) (outcome t x c .state) (r .1) (q .1) in
+      let a = actions-append (marks t x c) (story t (outcome t x c .state) cs) in
+      let l = r .2 in
+      omega arith
+
+  pub ends-rests : (x : State) → Ends t (4 * t .count) x → Rests t x
+  ends-rests x e = record { few = λ cs h. few-actions cs (4 * t .count) x e h; quiet = ends-quiet e }
+
+-- the bound, for every state that passes 24
+pub rests-everywhere : RestsEverywhere
+rests-everywhere t x z f =
+    let h = formed-sound t x z f in
+    ends-rests t x (ends-within t x record { few = h .0 .few; sized = z; shapes = h .1 .shapes })
+
+-- and for every state that a list of calls reaches
+pub always-rests : (t : Table) → tableFormed t ≡ true → (cs : List Call) → Rests t (afterCalls t freshState cs)
+always-rests t f cs =
+    rests-everywhere t (afterCalls t freshState cs) (sound-calls t (table-sound t .0 f) cs .sized) (always-formed t f cs)

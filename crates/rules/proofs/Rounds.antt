@@ -1,0 +1,531 @@
+-- The rounds: after a stop all, each round after the first takes down a service, so n + 1 rounds take all down.
+use Prim.Native.Nat.{_*_, _+_, _<_, _≤_, suc, zero, ℕ}
+use borrow.Author.Tests.{le-leb}
+use lib.Dec.{leb, lit<, lit≤, ltb}
+use lib.ListN.{length}
+use mathlib.Core.Bool.{Bool, _&&_, _||_, false, not, true}
+use mathlib.Core.List.{List, [], _++_, _∷_}
+use mathlib.Core.Logic.{_⊎_, inl, inr}
+use mathlib.Core.Path.{_∙_, _≡_, ap, refl, sym}
+use native.Mathlib.Nat.{eq-or-lt-of-le, le-of-suc-le-suc, le-refl, le-trans, not-suc-le-zero}
+use native.Mathlib.Omega.{arith}
+use Rattle.base.specs.Folds.{pick, some, sum}
+use Rattle.base.specs.Links.{Path, link}
+use Rattle.base.proofs.Below.{Sought, found, nowhere, some-false, some-true, sought}
+use Rattle.base.proofs.Links.{join}
+use Rattle.base.proofs.Sums.{sum-bound, sum-le, sum-lt, sum-term}
+use Rattle.base.proofs.Tests.{either, no-ft, not-both, not-false, not-true, or-not, refute, tests}
+use Rattle.service.specs.Limits.{lastClock}
+use Rattle.service.specs.Numbers.{isQuiet}
+use Rattle.service.specs.Records.{active, isDown, isEnding, isStarting, isUp, isUser, recordAt}
+use Rattle.service.specs.Settings.{settingsAt}
+use Rattle.service.specs.declared.Action.the-variants.{Quiet}
+use Rattle.service.specs.declared.Deadline.the-variants.{At}
+use Rattle.service.specs.declared.Phase.{Phase}
+use Rattle.service.specs.declared.Phase.the-variants.{Ending}
+use Rattle.service.specs.declared.Record.{Record}
+use Rattle.service.specs.declared.State.{State}
+use Rattle.service.specs.declared.Step.{Step}
+use Rattle.service.specs.declared.Table.{Table}
+use Rattle.service.proofs.Finite.{bools, finite, given, phases}
+use Rattle.service.proofs.Named.{is-ending}
+use Rattle.service.proofs.States.{Sized, with-same}
+use Rattle.rules.specs.Calls.{Answer, Call, Outcome, acted, check, clock, done, end, gives, next, outcome, ran, refused, run, told}
+use Rattle.rules.specs.Demand.{Clear, NoZeroTimeout, Now, Reported, Rests, Round, Rounds, Stretch, ToQuiet, accepted, another, by-run, call, empty, freshNow, here, isRefused, isStart, no-rounds, nowAfter, recorded, round, sent, singly, there}
+use Rattle.rules.specs.Dependencies.{blocked, hard, hardLinks}
+use Rattle.rules.specs.Events.{afterClock, afterEnd, endedAs}
+use Rattle.rules.specs.Rules.{due, nextAction}
+use Rattle.rules.specs.Runs.{actionAfter, stateAfter, stepsToQuiet, writtenActions, writtenServices}
+use Rattle.rules.specs.WellFormed.{formed, shapedAt, tableFormed}
+use Rattle.rules.specs.declared.Rule.the-variants.{End, Expire}
+use Rattle.rules.proofs.Doom.{Drift, doomed-active, doomed-user, drift-call, drift-here}
+use Rattle.rules.proofs.Fed.{call-leads}
+use Rattle.rules.proofs.Fitting.{end-fits, expire-fits}
+use Rattle.rules.proofs.Formed.{sound-formed}
+use Rattle.rules.proofs.Held.{Unblocked, unblocked}
+use Rattle.rules.proofs.Links.{TableSound, no-hard-cycle}
+use Rattle.rules.proofs.Next.{Stays}
+use Rattle.rules.proofs.Recorded.{Good}
+use Rattle.rules.proofs.Resting.{quiet-stays, rests-everywhere}
+use Rattle.rules.proofs.Safety.{fresh-good, good-feeds}
+use Rattle.rules.proofs.SentKill.{KilledSent, fresh-sent, sent-feeds}
+use Rattle.rules.proofs.Shapes.{active-not-down, down-dead, ending-lives, user-caused}
+use Rattle.rules.proofs.Timed.{Timed, fresh-timed, timed-call, timing}
+
+test-left-ending : phases (λ p. given (active p) (given (not (isUp p)) (given (not (isStarting p)) (isEnding p)))) ≡ true
+unfolding phases given
+test-left-ending = refl
+
+left-ending : (p : Phase) → active p ≡ true → not (isUp p) ≡ true → not (isStarting p) ≡ true → isEnding p ≡ true
+left-ending = simp finite at test-left-ending
+
+test-starting-timing : phases (λ p. given (isStarting p) (timing p)) ≡ true
+unfolding phases given
+test-starting-timing = refl
+
+starting-timing : (p : Phase) → isStarting p ≡ true → timing p ≡ true
+starting-timing = simp finite at test-starting-timing
+
+test-ending-timing : phases (λ p. given (isEnding p) (timing p)) ≡ true
+unfolding phases given
+test-ending-timing = refl
+
+ending-timing : (p : Phase) → isEnding p ≡ true → timing p ≡ true
+ending-timing = simp finite at test-ending-timing
+
+test-starting-expires : phases (λ p. bools (λ z. given (isStarting p) (isStarting p || isEnding p && not z))) ≡ true
+unfolding phases bools given
+test-starting-expires = refl
+
+starting-expires : (p : Phase) (z : Bool) → isStarting p ≡ true → (isStarting p || isEnding p && not z) ≡ true
+starting-expires = simp finite at test-starting-expires
+
+test-ending-expires : phases (λ p. bools (λ z. given (isEnding p) (given (not z) (isStarting p || isEnding p && not z)))) ≡ true
+unfolding phases bools given
+test-ending-expires = refl
+
+ending-expires : (p : Phase) (z : Bool) → isEnding p ≡ true → not z ≡ true → (isStarting p || isEnding p && not z) ≡ true
+ending-expires = simp finite at test-ending-expires
+
+-- ---- among services that are not down one is unblocked, since no chain of hard dependencies comes back
+
+module _ (t : Table) (ts : TableSound t) (S : ℕ → Type 0) where
+  -- a member with no member of S below k above it cannot be; so no member can
+  top : (k : ℕ)
+      → ((m : ℕ) → m < t .count → S m → ((i : ℕ) → i < k → i < t .count → S i → Path (hardLinks t) i m → ⊥) → ⊥)
+      → (s : ℕ) → s < t .count → S s → ⊥
+  top zero Q s sl y = Q s sl y (λ i l. absurd (not-suc-le-zero l))
+  top (suc k) Q s sl y =
+      top k
+      (λ m ml u h.
+      Q m ml u
+      (λ i il in′ z p.
+      either
+      (eq-or-lt-of-le (le-of-suc-le-suc il))
+      (λ e.
+      Q i in′ z
+      (λ j jl jn w o.
+      either
+      (eq-or-lt-of-le (le-of-suc-le-suc jl))
+      (λ q. no-hard-cycle t ts i in′ (rw (q ∙ sym e) at o))
+      (λ lt. h j lt jn w (join (hardLinks t) o p))))
+      (λ lt. h i lt in′ z p)))
+      s
+      sl
+      y
+
+blocker : (t : Table) (x : State) (m : ℕ) → blocked t x m ≡ true → (e : ℕ) × (e < t .count) × ((hard t e m ≡ true) × (active (recordAt x e .phase) ≡ true))
+unfolding blocked
+blocker t x m b = simp (tests, some-true) at b
+
+one-unblocked : (t : Table) (ts : TableSound t) (x : State) → (s : ℕ) → s < t .count → isDown (recordAt x s .phase) ≡ false
+    → (m : ℕ) × (m < t .count) × (isDown (recordAt x m .phase) ≡ false) × Unblocked t x m
+one-unblocked t ts x s sl d =
+    either
+    (or-not (some (λ m. not (isDown (recordAt x m .phase)) && not (blocked t x m)) (t .count)))
+    (λ y. let k = simp (tests, some-true) at y in (k .0, k .1, k .2 .0, unblocked t x (k .0) .0 (k .2 .1)))
+    (λ n.
+    let all-blocked = simp (tests, some-false) at n in
+    absurd
+    (top t ts (λ m. isDown (recordAt x m .phase) ≡ false) (t .count)
+    (λ m ml y h.
+    let k = blocker t x m (all-blocked m ml y) in
+    h (k .0) (k .1) (k .1) (not-true _ .0 (active-not-down (recordAt x (k .0) .phase) (k .2 .1))) (unfold hard in link (k .2 .0)))
+    s sl d))
+
+-- ---- what an accepted clock reading, end and run do
+
+clock-state : (t : Table) (x : State) (n : ℕ) → accepted t x (clock n) ≡ true → outcome t x (clock n) .state ≡ afterClock x n
+unfolding outcome check accepted
+clock-state t x n a = go (formed t x) (leb (x .clock) n) (leb n lastClock) a
+  where
+    go : (b c d : Bool)
+        → not (isRefused (check (clock n) x b 24 (check (clock n) x c 22 (check (clock n) x d 23 (gives (clock n) done (afterClock x n)))) .answer)) ≡ true
+        → check (clock n) x b 24 (check (clock n) x c 22 (check (clock n) x d 23 (gives (clock n) done (afterClock x n)))) .state ≡ afterClock x n
+    go true true true e = refl
+    go true true false e = no-ft e
+    go true false d e = no-ft e
+    go false c d e = no-ft e
+
+end-state : (t : Table) (x : State) (s : ℕ) (good : Bool) → accepted t x (end s good) ≡ true
+    → (recordAt x s .live ≡ true) × (outcome t x (end s good) .state ≡ afterEnd t x s good)
+unfolding outcome check accepted
+end-state t x s good a = go (formed t x) (ltb s (t .count)) (recordAt x s .live) a
+  where
+    go : (b c d : Bool)
+        → not (isRefused (check (end s good) x b 24 (check (end s good) x c 20 (check (end s good) x d 21 (gives (end s good) done (afterEnd t x s good)))) .answer)) ≡ true
+        → (d ≡ true) × (check (end s good) x b 24 (check (end s good) x c 20 (check (end s good) x d 21 (gives (end s good) done (afterEnd t x s good)))) .state ≡ afterEnd t x s good)
+    go true true true e = (refl, refl)
+    go true true false e = no-ft e
+    go true false d e = no-ft e
+    go false c d e = no-ft e
+
+run-state : (t : Table) (x : State) (ss as′ : List ℕ) → accepted t x (run ss as′) ≡ true → outcome t x (run ss as′) .state ≡ stateAfter t x (stepsToQuiet t x)
+unfolding outcome check accepted
+run-state t x ss as′ a = go (formed t x) (leb (4 * t .count) (length ss) && leb (4 * t .count) (length as′)) a
+  where
+    ranOut : Outcome
+    ranOut = record {
+      answer = ran (stepsToQuiet t x);
+      state = stateAfter t x (stepsToQuiet t x);
+      services = writtenServices t x ss;
+      actions = writtenActions t x as′;
+    }
+
+    go : (b c : Bool) → not (isRefused (check (run ss as′) x b 24 (check (run ss as′) x c 25 ranOut) .answer)) ≡ true
+        → check (run ss as′) x b 24 (check (run ss as′) x c 25 ranOut) .state ≡ stateAfter t x (stepsToQuiet t x)
+    go true true e = refl
+    go true false e = no-ft e
+    go false c e = no-ft e
+
+-- a quiet answer leaves the state, in which no rule fits
+abbrev quietly : Answer → Bool
+quietly (refused k) = false
+quietly done = false
+quietly (acted a) = isQuiet a
+quietly (ran n) = false
+quietly (told d) = false
+
+next-quiet : (t : Table) (x : State) → outcome t x next .answer ≡ acted Quiet → (outcome t x next .state ≡ x) × Stays t x
+unfolding outcome check
+next-quiet t x a = go (formed t x) (ap quietly a)
+  where
+    go : (b : Bool) → quietly (check next x b 24 (gives next (acted (nextAction t x .action)) (nextAction t x .state)) .answer) ≡ true
+        → (check next x b 24 (gives next (acted (nextAction t x .action)) (nextAction t x .state)) .state ≡ x) × Stays t x
+    go true e = let q = quiet-stays t x e in (ap (λ (o : Step). o .state) (q .does), q)
+    go false e = no-ft e
+
+-- a run to quiet comes to quiet
+run-quiet : (t : Table) (x : State) → Rests t x → Stays t (stateAfter t x (stepsToQuiet t x))
+unfolding stepsToQuiet actionAfter
+run-quiet t x h = quiet-stays t _ (go (sought (λ k. isQuiet (actionAfter t x k)) (4 * t .count)))
+  where
+    go : {i : ℕ} → Sought (λ k. isQuiet (actionAfter t x k)) (4 * t .count) i → isQuiet (actionAfter t x i) ≡ true
+    go (found {i} l) = l .passes
+    go (nowhere n) =
+        let q = h .quiet in
+        let e : q .0 ≡ 4 * t .count =
+        either
+        (eq-or-lt-of-le (q .1))
+        (λ e. e)
+        (λ m. absurd (not-both (ap isQuiet (q .2)) (n (q .0) m))) in
+        rw (← e) (ap isQuiet (q .2))
+
+less : (a b : Bool) → (a ≡ true → b ≡ true) → pick b 0 1 ≤ pick a 0 1
+less true true h = le-refl 0
+less true false h = no-ft (h refl)
+less false true h = lit≤ tt
+less false false h = le-refl 1
+
+at-most : (a : Bool) → pick a 0 1 ≤ 1
+at-most true = lit≤ tt
+at-most false = lit≤ tt
+
+module _ (t : Table) (tf : tableFormed t ≡ true) (ts : TableSound t) (nz : NoZeroTimeout t) where
+  -- what is known wherever a list has come to
+  pub record Reached (n : Now) : Type 0 where
+    pub good : Good t ts (n .live) (n .state)
+    pub timed : Timed t (n .state)
+    pub sends : KilledSent t (n .sentKill) (n .state)
+
+  pub fresh-reached : Reached freshNow
+  fresh-reached = record { good = fresh-good t ts; timed = fresh-timed t (ts .few) nz; sends = fresh-sent t (ts .few) }
+
+  pub reached-call : (n : Now) → Reached n → (c : Call) → Reached (nowAfter t n c)
+  unfolding nowAfter
+  reached-call n h c = record {
+    good = call-leads t (Clear t) recorded (Good t ts) (good-feeds t ts) (n .live) (n .state) (h .good) c .keeps;
+    timed = timed-call t (ts .few) nz (n .state) (h .timed) c;
+    sends = call-leads t (λ v m. Unit {0}) sent (KilledSent t) (sent-feeds t (ts .few)) (n .sentKill) (n .state) (h .sends) c .keeps;
+  }
+
+  -- and on the way down from x₀
+  pub record Fate (x₀ : State) (n : Now) : Type 0 where
+    pub drift : Drift t x₀ (n .state)
+    pub reached : Reached n
+
+  fate-call : (x₀ : State) (n : Now) (c : Call) → (isStart c && accepted t (n .state) c) ≡ false → Fate x₀ n → Fate x₀ (nowAfter t n c)
+  fate-call x₀ n c b f = record {
+    drift = unfold nowAfter in drift-call t (ts .few) x₀ (n .state) c b (f .drift);
+    reached = reached-call n (f .reached) c;
+  }
+
+  pub fate-stretch : (x₀ : State) {n n′ : Now} {cs : List Call} → Stretch t n cs n′ → Fate x₀ n → Fate x₀ n′
+  fate-stretch x₀ empty f = f
+  fate-stretch x₀ (call {n = n} c b r) f = fate-stretch x₀ r (fate-call x₀ n c b f)
+
+  pub fate-here : {x₀ : State} {n : Now} → Fate x₀ n → Fate (n .state) n
+  fate-here {x₀} {n} f = record { drift = drift-here t (ts .few) x₀ (n .state) (f .drift); reached = f .reached }
+
+  shapes : {x₀ : State} {n : Now} → Fate x₀ n → (s : ℕ) → s < t .count → shapedAt t (n .state) s ≡ true
+  shapes f s l = f .reached .good .kept .sound .shapes s l
+
+  -- actions taken to quiet are a stretch, and leave a quiet state
+  stretch-end : {n n′ : Now} {cs : List Call} → Stretch t n cs n′ → (c : Call) → (isStart c && accepted t (n′ .state) c) ≡ false → Stretch t n (cs ++ (c ∷ [])) (nowAfter t n′ c)
+  stretch-end empty c b = call c b empty
+  stretch-end (call d e r) c b = call d e (stretch-end r c b)
+
+  pub quiet-stretch : {n n′ : Now} {cs : List Call} → ToQuiet t n cs n′ → Stretch t n cs n′
+  quiet-stretch (by-run ss as′ a) = call (run ss as′) refl empty
+  quiet-stretch (singly r e a) = stretch-end r next refl
+
+  quiet-there : {x₀ : State} {n n′ : Now} {cs : List Call} → ToQuiet t n cs n′ → Fate x₀ n → Stays t (n′ .state)
+  unfolding nowAfter
+  quiet-there {n = n} (by-run ss as′ a) f =
+      rw (run-state t (n .state) ss as′ a)
+      (run-quiet t (n .state) (rests-everywhere t (n .state) (f .drift .sized) (sound-formed t (n .state) tf (f .reached .good .kept .sound))))
+  quiet-there (singly {n′ = n′} r e a) f = let q = next-quiet t (n′ .state) a in rw (q .0) (q .1)
+
+  -- an accepted end takes down what is ending
+  end-down : (x : State) (s : ℕ) (good : Bool) → s < t .count → Sized x → isEnding (recordAt x s .phase) ≡ true → isDown (recordAt (afterEnd t x s good) s .phase) ≡ true
+  unfolding afterEnd endedAs
+  end-down x s good l z e =
+      rw (with-same x s (endedAs (recordAt x s .phase) (settingsAt t s) (x .clock) good (recordAt x s)) z (le-trans l (ts .few))) (go (recordAt x s .phase) (is-ending (recordAt x s .phase) e))
+    where
+      go : (p : Phase) → p ≡ Ending → isDown (endedAs p (settingsAt t s) (x .clock) good (recordAt x s) .phase) ≡ true
+      go p q = rw q
+
+  down-not-live : {x₀ : State} {n : Now} (s : ℕ) → s < t .count → Fate x₀ n → isDown (recordAt (n .state) s .phase) ≡ true → recordAt (n .state) s .live ≡ false
+  unfolding shapedAt
+  down-not-live {n = n} s l f d =
+      not-true _ .0 (down-dead (settingsAt t s .kind) (recordAt (n .state) s .phase) (recordAt (n .state) s .live) (recordAt (n .state) s .cause) (shapes f s l) d)
+
+  -- an end that is reported takes its service down, if it was ending
+  reported-down : (s : ℕ) → s < t .count → {n n′ : Now} {cs : List Call} → Reported t s n cs → Stretch t n cs n′ → Fate (n .state) n
+      → (isDown (recordAt (n .state) s .phase) ≡ true) ⊎ (isEnding (recordAt (n .state) s .phase) ≡ true) → isDown (recordAt (n′ .state) s .phase) ≡ true
+  reported-down s l {n} (here good a) (call c b r) f y =
+      let k = end-state t (n .state) s good a in
+      let n1 : Now = nowAfter t n (end s good) in
+      let down1 : isDown (recordAt (n1 .state) s .phase) ≡ true =
+      either
+      y
+      (λ d. absurd (not-both (k .0) (down-not-live s l f d)))
+      (λ e. unfold nowAfter in rw (k .1) (end-down (n .state) s good l (f .drift .sized) e)) in
+      fate-stretch (n1 .state) r (fate-here (fate-call (n .state) n (end s good) b f)) .drift .goes s l .down down1
+  reported-down s l {n} (there _ e) (call c b r) f y =
+      let f1 = fate-call (n .state) n c b f in
+      let g = f1 .drift .goes s l in
+      reported-down s l e r (fate-here f1)
+      (either y (λ d. inl (g .down d)) (λ u. either (g .ending u) (λ d. inl d) (λ m. inr (m .0))))
+
+  -- the process of a service that is ending lives, by the record
+  ending-recorded : {x₀ : State} {n : Now} → Fate x₀ n → (s : ℕ) → s < t .count → isEnding (recordAt (n .state) s .phase) ≡ true → n .live s ≡ true
+  unfolding shapedAt
+  ending-recorded {n = n} f s l e =
+      f .reached .good .same s l
+      ∙ ending-lives (settingsAt t s .kind) (recordAt (n .state) s .phase) (recordAt (n .state) s .live) (recordAt (n .state) s .cause) (shapes f s l) e
+
+  -- past its deadline in a quiet state, a service is not starting, and one that is ending has been killed
+  module _ (x : State) (q : Stays t x) (s : ℕ) (l : s < t .count) (e : ℕ) (at-e : recordAt x s .deadline ≡ At e) (past : e ≤ x .clock) where
+    is-due : due (x .clock) (recordAt x s .deadline) ≡ true
+    unfolding due
+    is-due = rw at-e (le-leb e (x .clock) past)
+
+    not-starting : isStarting (recordAt x s .phase) ≡ true → ⊥
+    not-starting b =
+        not-both
+        (expire-fits t x s .1 record { dues = is-due; which = starting-expires (recordAt x s .phase) (recordAt x s .killed) b })
+        (q .none Expire s l)
+
+    is-killed : isEnding (recordAt x s .phase) ≡ true → recordAt x s .killed ≡ true
+    is-killed b =
+        either
+        (or-not (recordAt x s .killed))
+        (λ k. k)
+        (λ k.
+        absurd
+        (not-both
+        (expire-fits t x s .1 record { dues = is-due; which = ending-expires (recordAt x s .phase) (recordAt x s .killed) b (not-true _ .1 k) })
+        (q .none Expire s l)))
+
+  -- each service that is not down and is unblocked is ending
+  Ready : State → Type 0
+  Ready x = (s : ℕ) → s < t .count → isDown (recordAt x s .phase) ≡ false → Unblocked t x s → isEnding (recordAt x s .phase) ≡ true
+
+  -- what a round comes to
+  record Turned (n n′ : Now) : Type 0 where
+    fate : Fate (n .state) n′
+    ready : Ready (n′ .state)
+    gone : (s : ℕ) → s < t .count → isEnding (recordAt (n .state) s .phase) ≡ true → isDown (recordAt (n′ .state) s .phase) ≡ true
+
+  turn : {n n′ : Now} {cs : List Call} → Round t n cs n′ → Fate (n .state) n → Turned n n′
+  unfolding Ready
+  turn {n} (round {n1 = n1} {n2 = n2} {n3 = n3} {n4 = n4} {n5 = n5} c sa acc past sb q3 sd rep q5) f = record {
+    fate = all5;
+    ready = λ s l d u. ready′ s l d u;
+    gone = λ s l e. gone′ s l e;
+  }
+    where
+      f1 : Fate (n .state) n1
+      f1 = fate-stretch (n .state) sa f
+
+      -- from the clock reading on
+      g2 : Fate (n1 .state) n2
+      g2 = fate-stretch (n1 .state) sb (fate-call (n1 .state) n1 (clock c) refl (fate-here f1))
+
+      g3 : Fate (n1 .state) n3
+      g3 = fate-stretch (n1 .state) (quiet-stretch q3) g2
+
+      h5 : Fate (n3 .state) n5
+      h5 = fate-stretch (n3 .state) (quiet-stretch q5) (fate-stretch (n3 .state) sd (fate-here g3))
+
+      all5 : Fate (n .state) n5
+      all5 =
+          fate-stretch (n .state) (quiet-stretch q5)
+          (fate-stretch (n .state) sd
+          (fate-stretch (n .state) (quiet-stretch q3) (fate-stretch (n .state) sb (fate-call (n .state) n1 (clock c) refl f1))))
+
+      still3 : Stays t (n3 .state)
+      still3 = quiet-there q3 g2
+
+      still5 : Stays t (n5 .state)
+      still5 = quiet-there q5 (fate-stretch (n3 .state) sd (fate-here g3))
+
+      -- the clock has reached what was pending at the reading
+      reached-clock : c ≤ n3 .state .clock
+      reached-clock =
+          let m : Now = nowAfter t n1 (clock c) in
+          let a : m .state .clock ≡ c = unfold nowAfter in unfold afterClock in ap (λ (y : State). y .clock) (clock-state t (n1 .state) c acc) in
+          let g : Fate (m .state) m = fate-here (fate-call (n1 .state) n1 (clock c) refl (fate-here f1)) in
+          let b : m .state .clock ≤ n3 .state .clock = fate-stretch (m .state) (quiet-stretch q3) (fate-stretch (m .state) sb g) .drift .clocks in
+          omega arith
+
+      -- a deadline of the reading that still stands is past
+      overdue : (s : ℕ) → s < t .count → timing (recordAt (n1 .state) s .phase) ≡ true → recordAt (n3 .state) s .deadline ≡ recordAt (n1 .state) s .deadline
+          → (e : ℕ) × (recordAt (n3 .state) s .deadline ≡ At e) × (e ≤ n3 .state .clock)
+      overdue s l b d =
+          let k = f1 .reached .timed .timed s l b in
+          let p : k .0 ≤ c = past s (k .0) l (k .1) in
+          let r = reached-clock in
+          (k .0, d ∙ k .1, le-trans p r)
+
+      ready′ : (s : ℕ) → s < t .count → isDown (recordAt (n5 .state) s .phase) ≡ false → Unblocked t (n5 .state) s → isEnding (recordAt (n5 .state) s .phase) ≡ true
+      ready′ s l d u =
+          let doom = all5 .drift .doom s l in
+          let r : Record = recordAt (n5 .state) s in
+          let on′ : active (r .phase) ≡ true = doomed-active (r .phase) (r .aside) (r .wanted) (r .cause) doom (not-true _ .1 d) in
+          let user : isUser (r .cause) ≡ true = doomed-user (r .phase) (r .aside) (r .wanted) (r .cause) doom on′ in
+          left-ending (r .phase) on′
+          (not-true _ .1
+          (refute (isUp (r .phase))
+          (λ b.
+          not-both
+          (end-fits t (n5 .state) s .1 record { up = b; caused = not-true _ .0 (user-caused (r .cause) user); unblocked = unblocked t (n5 .state) s .1 u })
+          (still5 .none End s l))))
+          (not-true _ .1
+          (refute (isStarting (r .phase))
+          (λ e.
+          let k = h5 .drift .goes s l .starting e in
+          let m = g3 .drift .goes s l .starting (k .0) in
+          let w = overdue s l (starting-timing (recordAt (n1 .state) s .phase) (m .0)) (m .1) in
+          not-starting (n3 .state) still3 s l (w .0) (w .1) (w .2) (k .0))))
+
+      gone′ : (s : ℕ) → s < t .count → isEnding (recordAt (n .state) s .phase) ≡ true → isDown (recordAt (n5 .state) s .phase) ≡ true
+      gone′ s l e =
+          either
+          (f1 .drift .goes s l .ending e)
+          (λ d. h5 .drift .goes s l .down (g3 .drift .goes s l .down d))
+          (λ k.
+          either
+          (g3 .drift .goes s l .ending (k .0))
+          (λ d. h5 .drift .goes s l .down d)
+          (λ m.
+          let w = overdue s l (ending-timing (recordAt (n1 .state) s .phase) (k .0)) (m .1) in
+          let d4 : isDown (recordAt (n4 .state) s .phase) ≡ true =
+          reported-down s l
+          (rep s l (ending-recorded g3 s l (m .0)) (g3 .reached .sends .sends s l (is-killed (n3 .state) still3 s l (w .0) (w .1) (w .2) (m .0)) .1))
+          sd (fate-here g3) (inr (m .0)) in
+          fate-stretch (n4 .state) (quiet-stretch q5) (fate-here (fate-stretch (n3 .state) sd (fate-here g3))) .drift .goes s l .down d4))
+
+  -- ---- how many services are not down
+
+  left : State → ℕ → ℕ
+  left x s = pick (isDown (recordAt x s .phase)) 0 1
+
+  count : State → ℕ
+  count x = sum (left x) (t .count)
+
+  -- no service comes to be other than down
+  Lasts : State → State → Type 0
+  Lasts x x′ = (s : ℕ) → s < t .count → isDown (recordAt x s .phase) ≡ true → isDown (recordAt x′ s .phase) ≡ true
+
+  count-le : (x x′ : State) → Lasts x x′ → count x′ ≤ count x
+  unfolding count left Lasts
+  count-le x x′ h = sum-le (left x′) (left x) (t .count) (λ s l. less (isDown (recordAt x s .phase)) (isDown (recordAt x′ s .phase)) (h s l))
+
+  count-lt : (x x′ : State) (m : ℕ) → m < t .count → isDown (recordAt x m .phase) ≡ false → isDown (recordAt x′ m .phase) ≡ true → Lasts x x′ → count x′ < count x
+  unfolding count left Lasts
+  count-lt x x′ m l a b h =
+      sum-lt (left x′) (left x) (t .count) m l (rw (a, b) (lit< tt)) (λ s sl _. less (isDown (recordAt x s .phase)) (isDown (recordAt x′ s .phase)) (h s sl))
+
+  count-all : (x : State) → count x ≤ t .count
+  unfolding count left
+  count-all x = let a = sum-bound (left x) 1 (t .count) (λ s l. at-most (isDown (recordAt x s .phase))) in omega arith
+
+  count-none : (x : State) → ((s : ℕ) → s < t .count → isDown (recordAt x s .phase) ≡ true) → count x ≡ 0
+  unfolding count left
+  count-none x h = let a = sum-bound (left x) 0 (t .count) (λ s l. rw (h s l) (le-refl 0)) in omega arith
+
+  none-count : (x : State) → count x ≡ 0 → (s : ℕ) → s < t .count → isDown (recordAt x s .phase) ≡ true
+  unfolding count left
+  none-count x z s l =
+      either
+      (or-not (isDown (recordAt x s .phase)))
+      (λ d. d)
+      (λ d. let a : 1 ≤ count x = rw d at (sum-term (left x) (t .count) s l) in absurd (omega arith))
+
+  -- after j + 1 rounds
+  record After (j : ℕ) (n : Now) : Type 0 where
+    fate : Fate (n .state) n
+    ready : Ready (n .state)
+    few : (count (n .state) ≡ 0) ⊎ (count (n .state) + j ≤ t .count)
+
+  Then : ℕ → Now → Type 0
+  Then zero n = Fate (n .state) n
+  Then (suc j) n = After j n
+
+  first-round : {n n′ : Now} {cs : List Call} → Round t n cs n′ → Fate (n .state) n → After 0 n′
+  first-round {n} {n′} r f =
+      let y = turn r f in
+      let c = count-all (n′ .state) in
+      record { fate = fate-here (y .fate); ready = y .ready; few = inr (omega arith) }
+
+  next-round : (j : ℕ) {n n′ : Now} {cs : List Call} → Round t n cs n′ → After j n → After (suc j) n′
+  unfolding Ready Lasts
+  next-round j {n} {n′} r a = record {
+    fate = fate-here (y .fate);
+    ready = y .ready;
+    few = falls (a .few) (or-not (some (λ s. not (isDown (recordAt (n .state) s .phase))) (t .count)));
+  }
+    where
+      y : Turned n n′
+      y = turn r (a .fate)
+
+      downs : Lasts (n .state) (n′ .state)
+      downs s l d = y .fate .drift .goes s l .down d
+
+      falls : (count (n .state) ≡ 0) ⊎ (count (n .state) + j ≤ t .count)
+          → (some (λ s. not (isDown (recordAt (n .state) s .phase))) (t .count) ≡ true) ⊎ (some (λ s. not (isDown (recordAt (n .state) s .phase))) (t .count) ≡ false)
+          → (count (n′ .state) ≡ 0) ⊎ (count (n′ .state) + suc j ≤ t .count)
+      falls (inl z) _ = let c = count-le (n .state) (n′ .state) downs in inl (omega arith)
+      falls (inr h) (inl u) =
+          let k = some-true (λ s. not (isDown (recordAt (n .state) s .phase))) (t .count) .0 u in
+          let m = one-unblocked t ts (n .state) (k .0) (k .1) (not-true _ .0 (k .2)) in
+          let c = count-lt (n .state) (n′ .state) (m .0) (m .1) (m .2) (y .gone (m .0) (m .1) (a .ready (m .0) (m .1) (m .2) (m .3))) downs in
+          inr (omega arith)
+      falls (inr h) (inr u) =
+          inl (count-none (n′ .state) (λ s l. downs s l (not-false _ .0 (some-false (λ s. not (isDown (recordAt (n .state) s .phase))) (t .count) .0 u s l))))
+
+  after-rounds : {k : ℕ} {n n′ : Now} {cs : List Call} → Rounds t k n cs n′ → Fate (n .state) n → Then k n′
+  unfolding Then
+  after-rounds no-rounds f = f
+  after-rounds (another {k} {n′ = n1} {n″ = n2} {ds = ds} rs r) f = go k r (after-rounds rs f)
+    where
+      go : (k : ℕ) → Round t n1 ds n2 → Then k n1 → After k n2
+      go zero r f = first-round r f
+      go (suc j) r a = next-round j r a
+
+  pub all-down : {n n′ : Now} {cs : List Call} → Rounds t (suc (t .count)) n cs n′ → Fate (n .state) n
+      → Fate (n′ .state) n′ × ((s : ℕ) → s < t .count → isDown (recordAt (n′ .state) s .phase) ≡ true)
+  unfolding Then
+  all-down {n′ = n′} rs f = let a = after-rounds rs f in (a .fate, none-count (n′ .state) (either (a .few) (λ z. z) (λ h. omega arith)))

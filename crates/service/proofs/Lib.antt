@@ -1,0 +1,3 @@
+pub mod Finite
+pub mod Named
+pub mod States
