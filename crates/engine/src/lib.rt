@@ -78,10 +78,10 @@ pub fn next_action(t: Table, x: State) -> Stepped
     if is_formed(t, x) {
         let z = next_step(t, x);
         let a = z.action;
-        let y = z.state;
+        let left = z.state;
         return Stepped {
             answer: ActionAnswer::Act(a),
-            state: y,
+            state: left,
         };
     }
     Stepped {

@@ -1,4 +1,6 @@
 -- `stop` meets its contract: the checks in order, then the state.
+use Prim.Native.Nat.{_≤_}
+use Rattle.service.specs.Limits.{maxServices}
 use Rattle.service.specs.Settings.{settingsAt}
 use Rattle.service.specs.Records.{recordAt, withRecord}
 use Rattle.settling.proofs.Formed.{formed-few}
@@ -11,19 +13,19 @@ is-formed-requires : tie.Need-is-formed-requires
 is-formed-requires c κs = search needs
 
 mul-r : tie.Need-mul-r
-mul-r c = let h = formed-few _ _ _ (c .before .before .is-formed .ensures) (c .before .if1 .taken) in search needs
+mul-r c = let h : c .before .before .before .args .t .count ≤ maxServices = search formed-few in search needs
 
 element-copy-out-r : tie.Need-element-copy-out-r
-element-copy-out-r c = let h = formed-few _ _ _ (c .before .before .is-formed .ensures) (c .before .if1 .taken) in search needs
+element-copy-out-r c = let h : c .before .before .before .args .t .count ≤ maxServices = search formed-few in search needs
 
 stop-record-requires : tie.Need-stop-record-requires
 stop-record-requires c κs = search needs
 
 mul-q : tie.Need-mul-q
-mul-q c = let h = formed-few _ _ _ (c .before .before .before .before .is-formed .ensures) (c .before .before .before .if1 .taken) in search needs
+mul-q c = let h : c .before .before .before .before .before .args .t .count ≤ maxServices = search formed-few in search needs
 
 element-set-from-q : tie.Need-element-set-from-q
-element-set-from-q c = let h = formed-few _ _ _ (c .before .before .before .before .is-formed .ensures) (c .before .before .before .if1 .taken) in search needs
+element-set-from-q c = let h : c .before .before .before .before .before .args .t .count ≤ maxServices = search formed-few in search needs
 
 done-requires : tie.Need-done-requires
 done-requires c κs = search needs
