@@ -100,6 +100,7 @@ pub fn stop(t: Table, x: State, s: usize) -> Changed
 {
     let formed = is_formed(t, x);
     let n = t.count;
+    // 24, then 20
     let ill = Refusal::IllFormed;
     let absent = Refusal::NoService;
     if formed {
