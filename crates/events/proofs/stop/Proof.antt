@@ -38,13 +38,13 @@ refuse-requires : tie.Need-refuse-requires
 refuse-requires c κs = search needs
 
 returns-2 : tie.Need-returns-2
-returns-2 c = search stop-absent
+returns-2 c = search (stop-done, stop-absent, stop-ill)
 
 refuse-requires-2 : tie.Need-refuse-requires-2
 refuse-requires-2 c κs = search needs
 
 returns-3 : tie.Need-returns-3
-returns-3 c = search stop-ill
+returns-3 c = search (stop-done, stop-absent, stop-ill)
 
 pub stop-spec : {M : Type 1} → statement M
 stop-spec =
