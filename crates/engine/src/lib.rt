@@ -1,11 +1,18 @@
-// The fresh state, the next action, and a run to quiet. The table and the state go by value: a call copies them a few times,
-// and list 24 is judged once in each call, a run too.
+// The calls of the engine: the events and the query under this crate's name too, and here the fresh state, the next action
+// and a run to quiet. The table and the state go by value: a call copies them a few times, and list 24 is judged once in each
+// call, a run too.
 use actions::action_number;
 use actions::action_service;
 use actions::hand_out;
 use actions::is_quiet;
 use base::overlaps;
 use decide::decide;
+pub use events::clock;
+pub use events::end;
+pub use events::start;
+pub use events::stop;
+pub use events::stop_all;
+pub use query::query;
 use rule_records::leave;
 use rules::Choice;
 use service::Action;
@@ -71,10 +78,10 @@ pub fn next_action(t: Table, x: State) -> Stepped
     if is_formed(t, x) {
         let z = next_step(t, x);
         let a = z.action;
-        let y = z.state;
+        let left = z.state;
         return Stepped {
             answer: ActionAnswer::Act(a),
-            state: y,
+            state: left,
         };
     }
     Stepped {

@@ -1,9 +1,9 @@
--- What an accepted event gives back is its outcome. Each premise is what the code has: q of list 24, and the state y.
+-- What an accepted event gives back is its outcome, and so is what a refused stop does. Each premise is what the code has: q of list 24, and the state y.
 use Prim.Native.Nat.{ℕ, _≤_, _<_}
 use mathlib.Core.Path.{_≡_, refl, sym, ap, _∙_}
-use mathlib.Core.Bool.{Bool, true, _&&_, _||_}
+use mathlib.Core.Bool.{Bool, true, false, _&&_, _||_}
 use lib.Dec.{leb, ltb, eqb}
-use borrow.Author.Tests.{le-leb, lt-ltb}
+use borrow.Author.Tests.{le-leb, lt-ltb, le-ltb}
 use Rattle.base.specs.Folds.{pick}
 use Rattle.base.specs.Sets.{hasBit}
 use Rattle.base.specs.Links.{reach}
@@ -14,7 +14,8 @@ use Rattle.service.specs.declared.Record.{Record}
 use Rattle.service.specs.declared.Table.{Table}
 use Rattle.service.specs.declared.State.{State}
 use Rattle.service.specs.declared.Changed.{Changed}
-use Rattle.service.specs.declared.EventAnswer.the-variants.{Done}
+use Rattle.service.specs.declared.EventAnswer.the-variants.{Done, Refused}
+use Rattle.service.specs.declared.Refusal.the-variants.{IllFormed, NoService}
 use Rattle.rules.specs.Dependencies.{allLinks}
 use Rattle.rules.specs.WellFormed.{formed}
 use Rattle.rules.specs.Events.{each, startReaches, startedAs, afterStart, stopped, afterStop, afterStopAll, endedAs, afterEnd, afterClock}
@@ -42,6 +43,20 @@ module _ (t : Table) (x : State) (q : Bool) (w : Changed) where
   stop-done s r e h l a d =
       let f : formed t x ≡ true = sym e ∙ h in
       rw (d, a, f, lt-ltb s (t .count) l)
+
+  pub stop-absent : (s : ℕ) → q ≡ formed t x → q ≡ true → t .count ≤ s → w ≡ record { answer = Refused NoService; state = x }
+      → changedOutcome w ≡ outcome t x (stop s)
+  unfolding outcome check
+  stop-absent s e h l d =
+      let f : formed t x ≡ true = sym e ∙ h in
+      rw (d, f, le-ltb s (t .count) l)
+
+  pub stop-ill : (s : ℕ) → q ≡ formed t x → q ≡ false → w ≡ record { answer = Refused IllFormed; state = x }
+      → changedOutcome w ≡ outcome t x (stop s)
+  unfolding outcome check
+  stop-ill s e h d =
+      let f : formed t x ≡ false = sym e ∙ h in
+      rw (d, f)
 
   pub stop-all-done : (y : State) → q ≡ formed t x → q ≡ true → y ≡ each (λ d r. stopped r) x (t .count)
       → w ≡ record { answer = Done; state = y } → changedOutcome w ≡ outcome t x stopAll

@@ -86,8 +86,8 @@ pub fn start(t: Table, x: State, s: usize) -> Changed
     if is_formed(t, x) {
         if s < t.count {
             let m = reach_set(t, s);
-            let y = start_each(t.count, x, s, m);
-            return done(y);
+            let started = start_each(t.count, x, s, m);
+            return done(started);
         }
         return refuse(Refusal::NoService, x);
     }
@@ -98,17 +98,22 @@ pub fn start(t: Table, x: State, s: usize) -> Changed
 pub fn stop(t: Table, x: State, s: usize) -> Changed
     ensures { λ y. ⌜ changedOutcome y ≡ outcome t x (stopCall s) ⌝ }
 {
-    if is_formed(t, x) {
-        if s < t.count {
+    let formed = is_formed(t, x);
+    let n = t.count;
+    // 24, then 20
+    let ill = Refusal::IllFormed;
+    let absent = Refusal::NoService;
+    if formed {
+        if s < n {
             let r = x.records[s];
             let q = stop_record(r);
-            let mut y = x;
-            y.records[s] = q;
-            return done(y);
+            let mut stopped = x;
+            stopped.records[s] = q;
+            return done(stopped);
         }
-        return refuse(Refusal::NoService, x);
+        return refuse(absent, x);
     }
-    refuse(Refusal::IllFormed, x)
+    refuse(ill, x)
 }
 
 // Stop for each.
@@ -116,8 +121,8 @@ pub fn stop_all(t: Table, x: State) -> Changed
     ensures { λ y. ⌜ changedOutcome y ≡ outcome t x stopAll ⌝ }
 {
     if is_formed(t, x) {
-        let y = stop_each(t.count, x);
-        return done(y);
+        let all_stopped = stop_each(t.count, x);
+        return done(all_stopped);
     }
     refuse(Refusal::IllFormed, x)
 }
@@ -132,9 +137,9 @@ pub fn end(t: Table, x: State, s: usize, good: bool) -> Changed
             let r = x.records[s];
             if r.live {
                 let q = end_record(v, x.clock, good, r);
-                let mut y = x;
-                y.records[s] = q;
-                return done(y);
+                let mut ended = x;
+                ended.records[s] = q;
+                return done(ended);
             }
             return refuse(Refusal::NotLive, x);
         }
@@ -149,10 +154,10 @@ pub fn clock(t: Table, x: State, to: u64) -> Changed
 {
     if is_formed(t, x) {
         if x.clock <= to {
+            let mut later = x;
+            later.clock = to;
             if to <= LAST_CLOCK {
-                let mut y = x;
-                y.clock = to;
-                return done(y);
+                return done(later);
             }
             return refuse(Refusal::ClockPast, x);
         }

@@ -125,10 +125,11 @@ fn end(v: Settings, now: u64, r: Record) -> Record
     requires { ⌜ Sound v now r ⌝ }
     ensures { λ q. ⌜ q ≡ ending v now r ⌝ }
 {
+    let p = Phase::Ending;
     let c = r.cause;
     let d = deadline_in(now, v.stop_timeout);
     Record {
-        phase: Phase::Ending,
+        phase: p,
         wanted: r.wanted,
         aside: r.aside,
         live: true,

@@ -10,7 +10,7 @@ is-formed-requires : tie.Need-is-formed-requires
 is-formed-requires c κs = search needs
 
 stop-each-requires : tie.Need-stop-each-requires
-stop-each-requires c κs = search formed-few
+stop-each-requires c κs = let h = formed-few _ _ _ (c .before .is-formed .ensures) (c .if1 .taken) in search needs
 
 done-requires : tie.Need-done-requires
 done-requires c κs = search needs
