@@ -1,33 +1,21 @@
 // One description: its lines read in turn to settings, with the dependencies that it names.
 use service::Settings;
 use text::Fault;
-use text::Opening;
-use text::Places;
 use text::Verdict;
-use text::first_bad;
 use text::line_end;
-use text::opening_of;
 use text::part;
 use text::same_bytes;
-use text::tail;
-use text::white_end;
 use value::LONGEST_WORD;
-use value::Scan;
 use value::Sizes;
-use value::scan_value;
 use value::write_word;
 use word::Setting;
 use word::is_name;
-use word::property;
 use word::read_setting;
 ghost use mathlib.Core.Path.{_≡_};
-ghost use Prim.Native.Nat.{_+_, _≤_};
-ghost use lib.ListN.{length};
-ghost use Rattle.text.proofs.Lines.{Inside};
 ghost use Rattle.value.specs.Stores.{Puts};
-ghost use Rattle.description.specs.Settings.{blank, withSetting, withDependency, affected, valueAt, wordAt, isDependency, known};
-ghost use Rattle.description.specs.Lines.{dependencyRead, settingRead, wordRead, tokensRead, propertyRead, openingRead};
-ghost use Rattle.description.specs.Texts.{readOn, completion, linesRead, textRead};
+ghost use Rattle.description.specs.Settings.{blank, valueAt, wordAt, isDependency, known};
+ghost use Rattle.description.specs.Lines.{dependencyRead, settingRead, wordRead, tokensRead};
+ghost use Rattle.description.specs.Texts.{completion};
 
 // How many dependencies a service may have.
 pub const MAX_DEPENDENCIES: usize = 16;
@@ -97,32 +85,6 @@ impl Description {
     }
 }
 
-// A setting more, in the place of an earlier one.
-fn with_setting(d: Description, property: usize, value: u64) -> Description
-    ensures { λ r. ⌜ r ≡ withSetting d property value ⌝ }
-{
-    let mut next = d;
-    if property < PROPERTIES {
-        next.values[property] = value;
-    }
-    next
-}
-
-// A dependency more.
-fn with_dependency(d: Description, property: usize, at: usize) -> Description
-    requires { ⌜ d .count ≤ 65536 ⌝ }
-    ensures { λ r. ⌜ r ≡ withDependency d property at ⌝ }
-{
-    let mut next = d;
-    let k = d.count;
-    let after = k + 1;
-    if k < MAX_DEPENDENCIES {
-        next.dependencies[k] = Dependency { property, at };
-    }
-    next.count = after;
-    next
-}
-
 // The value that begins at an offset goes to the line's end.
 pub fn value_at(text: &[u8], at: usize) -> &[u8]
     ensures { λ r. ⌜ now r ≡ valueAt (now (text .entry)) at ⌝ }
@@ -163,4 +125,120 @@ pub fn is_known(text: &[u8], d: Description, property: usize, word: &[u8]) -> bo
         k += 1;
     }
     found
+}
+
+// A dependency on a word by a property.
+pub fn read_dependency(
+    text: &[u8],
+    d: Description,
+    property: usize,
+    at: usize,
+    seen: usize,
+    word: &[u8],
+) -> Line
+    ensures { λ r. ⌜ r ≡ dependencyRead (now (text .entry)) d property at seen (now (word .entry)) ⌝ }
+{
+    let repeated = is_known(text, d, property, word);
+    let room = d.count < MAX_DEPENDENCIES;
+    if repeated {
+        return Line::Good(Effect::Nothing);
+    }
+    if room {
+        return Line::Good(Effect::Dependency(property, at));
+    }
+    Line::Bad(Fault {
+        number: 12,
+        at: seen,
+    })
+}
+
+// What a setting makes of its line.
+pub fn setting_line(property: usize, seen: usize, s: Setting) -> Line
+    ensures { λ r. ⌜ r ≡ settingRead property seen s ⌝ }
+{
+    match s {
+        Setting::Value(v) => Line::Good(Effect::Setting(property, v)),
+        Setting::Bad => Line::Bad(Fault {
+            number: 11,
+            at: seen,
+        }),
+    }
+}
+
+// A line of a property that takes a word.
+pub fn read_word_line(
+    text: &[u8],
+    d: Description,
+    property: usize,
+    at: usize,
+    seen: usize,
+    word: &[u8],
+) -> Line
+    ensures { λ r. ⌜ r ≡ wordRead (now (text .entry)) d property at seen (now (word .entry)) ⌝ }
+{
+    let naming = (10 <= property) & (property <= 12);
+    if naming {
+        let good = is_name(word);
+        if good {
+            return read_dependency(text, d, property, at, seen, word);
+        }
+        return Line::Bad(Fault {
+            number: 11,
+            at: seen,
+        });
+    }
+    let s = read_setting(property, word);
+    setting_line(property, seen, s)
+}
+
+// A line whose value has no fault.
+pub fn read_tokens(
+    text: &[u8],
+    d: Description,
+    property: usize,
+    at: usize,
+    seen: usize,
+    z: Sizes,
+    value: &[u8],
+) -> Line
+    ensures { λ r. ⌜ r ≡ tokensRead (now (text .entry)) d property at seen z (now (value .entry)) ⌝ }
+{
+    let command = (property == 1) | (property == 2);
+    if command {
+        let good = 0 < z.first;
+        if good {
+            return Line::Good(Effect::Setting(property, at as u64));
+        }
+        return Line::Bad(Fault {
+            number: 11,
+            at: seen,
+        });
+    }
+    let single = (z.tokens == 1) & (0 < z.first) & (z.first <= LONGEST_WORD);
+    if single {
+        let mut buffer = [0u8; 33];
+        let n = write_word(value, &mut buffer);
+        return read_word_line(text, d, property, at, seen, part(&buffer, 0, n));
+    }
+    Line::Bad(Fault {
+        number: 11,
+        at: seen,
+    })
+}
+
+// 13 and 14.
+pub fn complete(d: Description) -> Verdict
+    ensures { λ r. ⌜ r ≡ completion d ⌝ }
+{
+    let kind = d.values[0];
+    let command = d.values[1];
+    let missing = kind == 0;
+    let lacking = ((kind == 1) | (kind == 2)) & (command == 0);
+    if missing {
+        return Verdict::Bad(Fault { number: 13, at: 0 });
+    }
+    if lacking {
+        return Verdict::Bad(Fault { number: 14, at: 0 });
+    }
+    Verdict::Good
 }

@@ -5,10 +5,10 @@ use Prim.Native.Nat.{_≤_}
 use lib.ListN.{length, length-map}
 use lib.Seq.{set-out}
 use borrow.Author.Needs.{needs}
-use Rattle.description.proofs.with_dependency.Statement.{statement}
-use Rattle.description.proofs.with_dependency.Tie as tie
-use Rattle.description.proofs.with_dependency.Reads as reads
-use Rattle.description.proofs.with_dependency.Lts as lts
+use Rattle.reader.proofs.with_dependency.Statement.{statement}
+use Rattle.reader.proofs.with_dependency.Tie as tie
+use Rattle.reader.proofs.with_dependency.Reads as reads
+use Rattle.reader.proofs.with_dependency.Lts as lts
 
 returns-2 : tie.Need-returns-2
 returns-2 c =
