@@ -6,3 +6,4 @@ pub mod Bits
 pub mod Sets
 pub mod Filled
 pub mod Links
+pub mod Lists

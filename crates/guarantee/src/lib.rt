@@ -1,0 +1,1 @@
+// What holds of every loaded set. The laws stand in proofs/.
