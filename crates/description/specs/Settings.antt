@@ -58,9 +58,10 @@ valueAt text at = lineOf (drop at text)
 unfoldable pub wordAt : List ℕ → ℕ → List ℕ
 wordAt text at = wordOf (valueAt text at)
 
--- "the same kind and name twice counts once": the description has this dependency
-abbrev pub isDependency : List ℕ → Description → ℕ → List ℕ → ℕ → Bool
-isDependency text d p w k = eqb (dependencyAt d k .property) p && same (wordAt text (dependencyAt d k .at)) w
+-- "the same kind and name twice counts once": the description has this dependency at place k; a place that is not taken
+-- has no property of a dependency
+abbrev pub isDependency : List ℕ → Named → ℕ → List ℕ → Bool
+isDependency text e p w = eqb (e .property) p && same (wordAt text (e .at)) w
 
 unfoldable pub known : List ℕ → Description → ℕ → List ℕ → Bool
-known text d p w = some (isDependency text d p w) (d .count)
+known text d p w = some (λ k. isDependency text (dependencyAt d k) p w) maxDependencies
