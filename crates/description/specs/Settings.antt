@@ -50,6 +50,9 @@ valueOf d p = getD (d .values) p 0
 abbrev pub dependencyAt : Description → ℕ → Named
 dependencyAt d k = getD (d .dependencies) k noDependency
 
+abbrev pub descriptionAt : List Description → ℕ → Description
+descriptionAt ds j = getD ds j blank
+
 -- the value that begins at an offset goes to the line's end
 unfoldable pub valueAt : List ℕ → ℕ → List ℕ
 valueAt text at = lineOf (drop at text)

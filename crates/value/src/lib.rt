@@ -212,14 +212,16 @@ pub fn scan_value(s: &[u8]) -> Scan
         i = after;
     }
     // A last backslash comes before an open quote.
-    let cut = m.escaped;
+    let escaped = m.escaped;
+    let quoted = m.quoted;
+    let cut = escaped;
     if cut {
         return Scan::Bad(Fault {
             number: 9,
             at: before(i),
         });
     }
-    if m.quoted {
+    if quoted {
         return Scan::Bad(Fault {
             number: 8,
             at: quote,
