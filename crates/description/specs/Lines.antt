@@ -64,6 +64,11 @@ openingRead text d from l Silent = Good Nothing
 openingRead text d from l (BadOpening f) = Bad (fault (f .number) (from + f .at))
 openingRead text d from l (Named s) = propertyRead text d from l s (propertyOf (partOf l (s .from) (s .end)))
 
+abbrev pub isSilent : Opening → Bool
+isSilent Silent = true
+isSilent (BadOpening f) = false
+isSilent (Named s) = false
+
 -- the line l, which begins at the offset `from` of the text, after lines that made the settings d
 unfoldable pub lineRead : List ℕ → Description → ℕ → List ℕ → Line
 lineRead text d from l = openingRead text d from l (opening l)

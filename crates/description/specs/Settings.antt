@@ -50,6 +50,9 @@ valueOf d p = getD (d .values) p 0
 abbrev pub dependencyAt : Description → ℕ → Named
 dependencyAt d k = getD (d .dependencies) k noDependency
 
+abbrev pub descriptionAt : List Description → ℕ → Description
+descriptionAt ds j = getD ds j blank
+
 -- the value that begins at an offset goes to the line's end
 unfoldable pub valueAt : List ℕ → ℕ → List ℕ
 valueAt text at = lineOf (drop at text)
@@ -58,9 +61,10 @@ valueAt text at = lineOf (drop at text)
 unfoldable pub wordAt : List ℕ → ℕ → List ℕ
 wordAt text at = wordOf (valueAt text at)
 
--- "the same kind and name twice counts once": the description has this dependency
-abbrev pub isDependency : List ℕ → Description → ℕ → List ℕ → ℕ → Bool
-isDependency text d p w k = eqb (dependencyAt d k .property) p && same (wordAt text (dependencyAt d k .at)) w
+-- "the same kind and name twice counts once": the description has this dependency at place k; a place that is not taken
+-- has no property of a dependency
+abbrev pub isDependency : List ℕ → Named → ℕ → List ℕ → Bool
+isDependency text e p w = eqb (e .property) p && same (wordAt text (e .at)) w
 
 unfoldable pub known : List ℕ → Description → ℕ → List ℕ → Bool
-known text d p w = some (isDependency text d p w) (d .count)
+known text d p w = some (λ k. isDependency text (dependencyAt d k) p w) maxDependencies

@@ -1,6 +1,21 @@
 // One description: its lines read in turn to settings, with the dependencies that it names.
+use service::Settings;
 use text::Fault;
 use text::Verdict;
+use text::line_end;
+use text::part;
+use text::same_bytes;
+use value::LONGEST_WORD;
+use value::Sizes;
+use value::write_word;
+use word::Setting;
+use word::is_name;
+use word::read_setting;
+ghost use mathlib.Core.Path.{_≡_};
+ghost use Rattle.value.specs.Stores.{Puts};
+ghost use Rattle.description.specs.Settings.{blank, valueAt, wordAt, isDependency, known};
+ghost use Rattle.description.specs.Lines.{dependencyRead, settingRead, wordRead, tokensRead};
+ghost use Rattle.description.specs.Texts.{completion};
 
 // How many dependencies a service may have.
 pub const MAX_DEPENDENCIES: usize = 16;
@@ -39,4 +54,191 @@ pub enum Line {
 pub struct Read {
     pub answer: Verdict,
     pub description: Description,
+}
+
+impl Description {
+    // All settings by default, no type and no dependencies.
+    pub fn blank() -> Description
+        ensures { λ r. ⌜ r ≡ blank ⌝ }
+    {
+        let none = Dependency { property: 0, at: 0 };
+        Description {
+            values: [
+                0,
+                0,
+                0,
+                0,
+                0,
+                Settings::RESTART_DELAY,
+                Settings::RESTART_LIMIT_INTERVAL,
+                Settings::RESTART_LIMIT_COUNT,
+                Settings::START_TIMEOUT,
+                Settings::STOP_TIMEOUT,
+                0,
+                0,
+                0,
+                3,
+            ],
+            count: 0,
+            dependencies: [none; MAX_DEPENDENCIES],
+        }
+    }
+}
+
+// The value that begins at an offset goes to the line's end.
+pub fn value_at(text: &[u8], at: usize) -> &[u8]
+    ensures { λ r. ⌜ now r ≡ valueAt (now (text .entry)) at ⌝ }
+{
+    part(text, at, line_end(text, at))
+}
+
+// Writes the word that begins at an offset to dst, and returns its length.
+pub fn write_word_at(text: &[u8], at: usize, dst: &mut [u8]) -> usize
+    ensures { λ r. ⌜ Puts (now (dst .entry)) 0 (wordAt (now (text .entry)) at) (now (dst .exit)) r ⌝ }
+{
+    write_word(value_at(text, at), dst)
+}
+
+// The dependency is one on the word by the property.
+pub fn is_dependency(text: &[u8], e: Dependency, property: usize, word: &[u8]) -> bool
+    ensures { λ r. ⌜ r ≡ isDependency (now (text .entry)) e property (now (word .entry)) ⌝ }
+{
+    let other = e.property == property;
+    if other {
+        let mut buffer = [0u8; 33];
+        let n = write_word_at(text, e.at, &mut buffer);
+        return same_bytes(part(&buffer, 0, n), word);
+    }
+    false
+}
+
+// The description has a dependency on the word by the property.
+pub fn is_known(text: &[u8], d: Description, property: usize, word: &[u8]) -> bool
+    ensures { λ r. ⌜ r ≡ known (now (text .entry)) d property (now (word .entry)) ⌝ }
+{
+    let mut found = false;
+    let mut k: usize = 0;
+    while k < MAX_DEPENDENCIES {
+        let e = d.dependencies[k];
+        let hit = is_dependency(text, e, property, word);
+        found = found | hit;
+        k += 1;
+    }
+    found
+}
+
+// A dependency on a word by a property.
+pub fn read_dependency(
+    text: &[u8],
+    d: Description,
+    property: usize,
+    at: usize,
+    seen: usize,
+    word: &[u8],
+) -> Line
+    ensures { λ r. ⌜ r ≡ dependencyRead (now (text .entry)) d property at seen (now (word .entry)) ⌝ }
+{
+    let repeated = is_known(text, d, property, word);
+    let room = d.count < MAX_DEPENDENCIES;
+    if repeated {
+        return Line::Good(Effect::Nothing);
+    }
+    if room {
+        return Line::Good(Effect::Dependency(property, at));
+    }
+    Line::Bad(Fault {
+        number: 12,
+        at: seen,
+    })
+}
+
+// What a setting makes of its line.
+pub fn setting_line(property: usize, seen: usize, s: Setting) -> Line
+    ensures { λ r. ⌜ r ≡ settingRead property seen s ⌝ }
+{
+    match s {
+        Setting::Value(v) => Line::Good(Effect::Setting(property, v)),
+        Setting::Bad => Line::Bad(Fault {
+            number: 11,
+            at: seen,
+        }),
+    }
+}
+
+// A line of a property that takes a word.
+pub fn read_word_line(
+    text: &[u8],
+    d: Description,
+    property: usize,
+    at: usize,
+    seen: usize,
+    word: &[u8],
+) -> Line
+    ensures { λ r. ⌜ r ≡ wordRead (now (text .entry)) d property at seen (now (word .entry)) ⌝ }
+{
+    let naming = (10 <= property) & (property <= 12);
+    if naming {
+        let good = is_name(word);
+        if good {
+            return read_dependency(text, d, property, at, seen, word);
+        }
+        return Line::Bad(Fault {
+            number: 11,
+            at: seen,
+        });
+    }
+    let s = read_setting(property, word);
+    setting_line(property, seen, s)
+}
+
+// A line whose value has no fault.
+pub fn read_tokens(
+    text: &[u8],
+    d: Description,
+    property: usize,
+    at: usize,
+    seen: usize,
+    z: Sizes,
+    value: &[u8],
+) -> Line
+    ensures { λ r. ⌜ r ≡ tokensRead (now (text .entry)) d property at seen z (now (value .entry)) ⌝ }
+{
+    let command = (property == 1) | (property == 2);
+    if command {
+        let good = 0 < z.first;
+        if good {
+            return Line::Good(Effect::Setting(property, at as u64));
+        }
+        return Line::Bad(Fault {
+            number: 11,
+            at: seen,
+        });
+    }
+    let single = (z.tokens == 1) & (0 < z.first) & (z.first <= LONGEST_WORD);
+    if single {
+        let mut buffer = [0u8; 33];
+        let n = write_word(value, &mut buffer);
+        return read_word_line(text, d, property, at, seen, part(&buffer, 0, n));
+    }
+    Line::Bad(Fault {
+        number: 11,
+        at: seen,
+    })
+}
+
+// 13 and 14.
+pub fn complete(d: Description) -> Verdict
+    ensures { λ r. ⌜ r ≡ completion d ⌝ }
+{
+    let kind = d.values[0];
+    let command = d.values[1];
+    let missing = kind == 0;
+    let lacking = ((kind == 1) | (kind == 2)) & (command == 0);
+    if missing {
+        return Verdict::Bad(Fault { number: 13, at: 0 });
+    }
+    if lacking {
+        return Verdict::Bad(Fault { number: 14, at: 0 });
+    }
+    Verdict::Good
 }

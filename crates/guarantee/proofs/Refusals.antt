@@ -10,11 +10,11 @@ use Rattle.service.specs.Settings.{defaultSettings, noServices}
 use Rattle.service.specs.declared.Settings.{Settings}
 use Rattle.description.specs.declared.Description.{Description}
 use Rattle.lent.specs.Checks.{namesFrom, sizesFrom}
-use Rattle.loader.specs.Links.{lowestCyclic, servicesFrom}
+use Rattle.linking.specs.Links.{lowestCyclic, servicesFrom}
 use Rattle.loader.specs.Load.{Outcome as LoadOutcome, acyclic, load, loadSet, passed, stored, tested}
 use Rattle.lent.specs.Parts.{nameAt, positioned, serviceCount, textAt}
 use Rattle.loader.specs.Texts.{descriptionsFrom, noDescriptions}
-use Rattle.loader.specs.Tokens.{bytesFrom}
+use Rattle.storing.specs.Tokens.{bytesFrom}
 use Rattle.lent.specs.declared.Answer.{Answer as LoadAnswer}
 use Rattle.lent.specs.declared.Answer.the-variants.{Accepted, Refused as LoadRefused}
 use Rattle.guarantee.specs.Guarantee.{RefusedLoadLeavesAll}

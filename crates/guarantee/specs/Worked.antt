@@ -29,7 +29,7 @@ use Rattle.word.specs.Words.{flagOf, isName, kindOf, nameBytes, noOf, signalNam
 use Rattle.description.specs.Lines.{dependencyRead, lineRead, propertyRead, tokensRead, wordRead}
 use Rattle.description.specs.Settings.{known, valueAt, valueOf, wordAt}
 use Rattle.description.specs.Texts.{completion, linesRead, textRead}
-use Rattle.loader.specs.Tokens.{commandBytes}
+use Rattle.storing.specs.Tokens.{commandBytes}
 
 -- a time and a command's value, as they stand in a description
 unfoldable pub timeText : String → List ℕ

@@ -1,4 +1,6 @@
 // A lent set: the names and texts of its services in one run of bytes, with the positions where they end. Numbers 2 to 5.
+use text::Fault;
+use text::line_number;
 use text::part;
 use text::same_bytes;
 use word::is_name;
@@ -7,6 +9,7 @@ ghost use Prim.Native.Nat.{_≤_, _/_};
 ghost use lib.ListN.{getD};
 ghost use Rattle.lent.specs.Parts.{positioned, nameStart, nameAt, textAt};
 ghost use Rattle.lent.specs.Checks.{find, namesFrom, sizesFrom};
+ghost use Rattle.lent.specs.Refusals.{refusedIn};
 
 // What the checks of a set, and the load, answer: accepted, or paper 01's number with the service and the line.
 pub enum Answer {
@@ -163,4 +166,24 @@ pub fn check_sizes(lent: &[u8], ends: &[usize], n: usize) -> Answer
         j = next;
     }
     Answer::Accepted
+}
+
+// A fault met in the text of service j, with its line where it has one.
+pub fn refused_in(text: &[u8], j: usize, f: Fault) -> Answer
+    ensures { λ r. ⌜ r ≡ refusedIn (now (text .entry)) j f ⌝ }
+{
+    let number = f.number;
+    let lined = ((6 <= number) & (number <= 12)) | (number == 15);
+    if lined {
+        return Answer::Refused {
+            number,
+            service: j,
+            line: line_number(text, f.at),
+        };
+    }
+    Answer::Refused {
+        number,
+        service: j,
+        line: 0,
+    }
 }

@@ -25,12 +25,12 @@ use Rattle.description.specs.Lines.{dependencyRead, wordRead, tokensRead, prope
 use Rattle.description.specs.Texts.{completion, linesRead, textRead}
 use Rattle.lent.specs.declared.Answer.{Answer}
 use Rattle.lent.specs.declared.Answer.the-variants.{Accepted, Refused}
-use Rattle.loader.specs.declared.Commands.{Commands}
+use Rattle.storing.specs.declared.Commands.{Commands}
 use Rattle.lent.specs.Parts.{risesTo, positioned, nameStart, nameAt, textAt}
 use Rattle.lent.specs.Checks.{find, namesFrom, sizesFrom}
 use Rattle.loader.specs.Texts.{descriptionsFrom}
-use Rattle.loader.specs.Links.{linksFrom, servicesFrom, lowestCyclic}
-use Rattle.loader.specs.Tokens.{commandBytes, commandSizes, bytesFrom, noCommands, commandsFrom}
+use Rattle.linking.specs.Links.{linksFrom, servicesFrom, lowestCyclic}
+use Rattle.storing.specs.Tokens.{commandBytes, commandCount, bytesFrom, noCommands, commandsFrom}
 use Rattle.loader.specs.Load.{Outcome, stored, acyclic, loadSet, load}
 
 -- a service's name and text
@@ -143,9 +143,9 @@ examples =
     []
 
 pub pair-loads : loadOf pair 30 ≡ pairLoaded
-unfolding lentOf endsFrom loadOf some first hasBit reach bytes same indexFrom partOf run lineOf linesOf badFrom lineFrom lineNumber opening stepOf bareStep faultFrom marksFrom countFrom scanOf written leading wordOf flagOf noOf kindOf signalNames signalOf nameBytes isName digitOf readOf decimalFrom timeEnd timeOf countEnd countOf propertyNames propertyOf settingOf valueAt wordAt known dependencyRead wordRead tokensRead propertyRead lineRead completion linesRead textRead risesTo positioned nameStart nameAt textAt find namesFrom sizesFrom descriptionsFrom linksFrom servicesFrom lowestCyclic commandBytes commandSizes bytesFrom commandsFrom stored acyclic loadSet load
+unfolding lentOf endsFrom loadOf some first hasBit reach bytes same indexFrom partOf run lineOf linesOf badFrom lineFrom lineNumber opening stepOf bareStep faultFrom marksFrom countFrom scanOf written leading wordOf flagOf noOf kindOf signalNames signalOf nameBytes isName digitOf readOf decimalFrom timeEnd timeOf countEnd countOf propertyNames propertyOf settingOf valueAt wordAt known dependencyRead wordRead tokensRead propertyRead lineRead completion linesRead textRead risesTo positioned nameStart nameAt textAt find namesFrom sizesFrom descriptionsFrom linksFrom servicesFrom lowestCyclic commandBytes commandCount bytesFrom commandsFrom stored acyclic loadSet load
 pair-loads = refl
 
 pub examples-hold : map (λ e. answerOf (e .case)) examples ≡ map (λ e. e .answer) examples
-unfolding lentOf endsFrom loadOf answerOf some first hasBit reach bytes same indexFrom partOf run lineOf linesOf badFrom lineFrom lineNumber opening stepOf bareStep faultFrom marksFrom countFrom scanOf written leading wordOf flagOf noOf kindOf signalNames signalOf nameBytes isName digitOf readOf decimalFrom timeEnd timeOf countEnd countOf propertyNames propertyOf settingOf valueAt wordAt known dependencyRead wordRead tokensRead propertyRead lineRead completion linesRead textRead risesTo positioned nameStart nameAt textAt find namesFrom sizesFrom descriptionsFrom linksFrom servicesFrom lowestCyclic commandBytes commandSizes bytesFrom commandsFrom stored acyclic loadSet load
+unfolding lentOf endsFrom loadOf answerOf some first hasBit reach bytes same indexFrom partOf run lineOf linesOf badFrom lineFrom lineNumber opening stepOf bareStep faultFrom marksFrom countFrom scanOf written leading wordOf flagOf noOf kindOf signalNames signalOf nameBytes isName digitOf readOf decimalFrom timeEnd timeOf countEnd countOf propertyNames propertyOf settingOf valueAt wordAt known dependencyRead wordRead tokensRead propertyRead lineRead completion linesRead textRead risesTo positioned nameStart nameAt textAt find namesFrom sizesFrom descriptionsFrom linksFrom servicesFrom lowestCyclic commandBytes commandCount bytesFrom commandsFrom stored acyclic loadSet load
 examples-hold = refl

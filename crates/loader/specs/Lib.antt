@@ -1,5 +1,4 @@
+pub mod Short
 pub mod Texts
-pub mod Links
-pub mod Tokens
 pub mod Load
 pub mod Examples

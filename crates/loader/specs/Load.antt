@@ -14,15 +14,15 @@ use Rattle.service.specs.declared.Table.{Table}
 use Rattle.description.specs.declared.Description.{Description}
 use Rattle.lent.specs.declared.Answer.{Answer}
 use Rattle.lent.specs.declared.Answer.the-variants.{Accepted, Refused}
-use Rattle.loader.specs.declared.Commands.{Commands}
+use Rattle.storing.specs.declared.Commands.{Commands}
 use Rattle.loader.specs.declared.Descriptions.{Descriptions}
-use Rattle.loader.specs.declared.Services.{Services}
+use Rattle.linking.specs.declared.Services.{Services}
 use Rattle.loader.specs.declared.Loaded.{Loaded}
 use Rattle.lent.specs.Parts.{serviceCount, positioned, nameAt, textAt}
 use Rattle.lent.specs.Checks.{namesFrom, sizesFrom}
 use Rattle.loader.specs.Texts.{noDescriptions, descriptionsFrom}
-use Rattle.loader.specs.Links.{servicesFrom, lowestCyclic}
-use Rattle.loader.specs.Tokens.{bytesFrom, noCommands, commandsFrom}
+use Rattle.linking.specs.Links.{servicesFrom, lowestCyclic}
+use Rattle.storing.specs.Tokens.{bytesFrom, noCommands, commandsFrom}
 
 -- what a load gives back, and what the lent buffer holds then
 pub record Outcome : Type 0 where

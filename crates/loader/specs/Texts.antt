@@ -1,29 +1,16 @@
 -- "then each text in turn": the descriptions of a set, or the first fault with its service and line.
-use Prim.Native.Nat.{ℕ, zero, suc, _+_}
-use mathlib.Core.Bool.{Bool, true, false, _||_, _&&_}
+use Prim.Native.Nat.{_+_, suc, zero, ℕ}
+use lib.ListN.{replicate, set}
 use mathlib.Core.List.{List}
-use lib.Dec.{eqb, leb}
-use lib.ListN.{set, replicate}
-use Rattle.base.specs.Folds.{pick}
 use Rattle.service.specs.Limits.{maxServices}
-use Rattle.text.specs.declared.Fault.{Fault}
 use Rattle.text.specs.declared.Verdict.{Verdict}
-use Rattle.text.specs.declared.Verdict.the-variants.{Good, Bad}
-use Rattle.text.specs.Lines.{lineNumber}
-use Rattle.description.specs.declared.Description.{Description}
+use Rattle.text.specs.declared.Verdict.the-variants.{Bad as Bad, Good as Good}
 use Rattle.description.specs.Settings.{blank}
 use Rattle.description.specs.Texts.{textRead}
-use Rattle.lent.specs.declared.Answer.{Answer}
-use Rattle.lent.specs.declared.Answer.the-variants.{Accepted, Refused}
+use Rattle.description.specs.declared.Description.{Description}
 use Rattle.loader.specs.declared.Descriptions.{Descriptions}
-
--- "line 0 outside 6 to 12 and 15"
-abbrev pub hasLine : ℕ → Bool
-hasLine n = (leb 6 n && leb n 12) || eqb n 15
-
--- a fault met in the text of service j
-abbrev pub refusedIn : List ℕ → ℕ → Fault → Answer
-refusedIn text j f = Refused (f .number) j (pick (hasLine (f .number)) (lineNumber text (f .at)) 0)
+use Rattle.lent.specs.Refusals.{refusedIn}
+use Rattle.lent.specs.declared.Answer.the-variants.{Accepted}
 
 abbrev pub noDescriptions : List Description
 noDescriptions = replicate maxServices blank

@@ -1,10 +1,38 @@
 // A set of descriptions, lent as bytes and positions, loaded to the table of its services.
 use description::Description;
 use lent::Answer;
+use lent::check_names;
+use lent::check_sizes;
+use lent::is_positioned;
+use lent::refused_in;
+use lent::text_at;
+use linking::lowest_cyclic;
+use linking::make_services;
+use reader::read_text;
 use service::MAX_SERVICES;
 use service::Settings;
 use service::Table;
+use storing::Commands;
+use storing::Tokens;
+use storing::command_count;
+use storing::command_room;
+use storing::write_command;
 use text::Verdict;
+ghost use mathlib.Core.Path.{_≡_};
+ghost use mathlib.Core.List.{_++_};
+ghost use Prim.Native.Nat.{_≤_, _<_};
+ghost use lib.ListN.{length, replicate};
+ghost use lib.Seq.{sets};
+ghost use Rattle.service.specs.Limits.{maxServices};
+ghost use Rattle.service.specs.Settings.{defaultSettings, noServices};
+ghost use Rattle.description.specs.Settings.{valueOf};
+ghost use Rattle.lent.specs.declared.Answer.the-variants.{Accepted};
+ghost use Rattle.lent.specs.Parts.{nameAt, textAt};
+ghost use Rattle.linking.specs.Links.{servicesFrom};
+ghost use Rattle.storing.specs.Tokens.{bytesFrom, commandBytes, commandsAt, commandsFrom, noCommands, roomOf};
+ghost use Rattle.loader.specs.Short.{Short};
+ghost use Rattle.loader.specs.Texts.{descriptionsFrom, descriptionsOn, noDescriptions};
+ghost use Rattle.loader.specs.Load.{Outcome, acyclic, load, loadSet, stored, withDescriptions, withServices};
 
 // The descriptions read so far, by service.
 pub struct Descriptions {
@@ -12,38 +40,304 @@ pub struct Descriptions {
     pub descriptions: [Description; MAX_SERVICES],
 }
 
-// The services that a service depends on, as sets: by depends-on, by depends-ms and by waits-for.
-pub struct Links {
-    pub hard: u64,
-    pub milestone: u64,
-    pub soft: u64,
-}
-
-pub struct Linked {
-    pub answer: Verdict,
-    pub links: Links,
-}
-
-// The settings made so far, by service.
-pub struct Services {
-    pub answer: Answer,
-    pub services: [Settings; MAX_SERVICES],
-}
-
-// Where the tokens of a command begin in the lent buffer, and how many they are.
-pub struct Tokens {
-    pub at: usize,
-    pub count: usize,
-}
-
-pub struct Commands {
-    pub start: Tokens,
-    pub stop: Tokens,
-}
-
 // What a load gives: its answer, the table, and where the tokens of each service's command and stop-command are.
 pub struct Loaded {
     pub answer: Answer,
     pub table: Table,
     pub commands: [Commands; MAX_SERVICES],
+}
+
+// The refusal of a verdict on the text of service j.
+fn refuse_text(text: &[u8], j: usize, v: Verdict, ds: [Description; MAX_SERVICES]) -> Descriptions
+    ensures { λ r. ⌜ r ≡ descriptionsOn (now (text .entry)) j v ds (record { answer = Accepted; descriptions = ds }) ⌝ }
+{
+    match v {
+        Verdict::Good => Descriptions {
+            answer: Answer::Accepted,
+            descriptions: ds,
+        },
+        Verdict::Bad(f) => {
+            let answer = refused_in(text, j, f);
+            Descriptions {
+                answer,
+                descriptions: ds,
+            }
+        }
+    }
+}
+
+// The texts of the first n services read in turn, put into the places given.
+fn read_into(lent: &[u8], ends: &[usize], n: usize, none: [Description; MAX_SERVICES]) -> Descriptions
+    requires { ⌜ n ≤ maxServices ⌝ }
+    ensures { λ r. ⌜ r ≡ descriptionsFrom (textAt (now (lent .entry)) (now (ends .entry))) none 0 n ⌝ }
+{
+    let mut ds = none;
+    let mut j: usize = 0;
+    while j < n {
+        let next = j + 1;
+        let text = text_at(lent, ends, j);
+        let r = read_text(text);
+        let answer = r.answer;
+        let Verdict::Good = answer else {
+            return refuse_text(text, j, answer, ds);
+        };
+        let d = r.description;
+        ds[j] = d;
+        j = next;
+    }
+    Descriptions {
+        answer: Answer::Accepted,
+        descriptions: ds,
+    }
+}
+
+fn read_texts(lent: &[u8], ends: &[usize], n: usize) -> Descriptions
+    requires { ⌜ n ≤ maxServices ⌝ }
+    ensures { λ r. ⌜ r ≡ descriptionsFrom (textAt (now (lent .entry)) (now (ends .entry))) noDescriptions 0 n ⌝ }
+{
+    let none = Description::blank();
+    read_into(lent, ends, n, [none; MAX_SERVICES])
+}
+
+// The room that a service's two commands take.
+fn room_of(text: &[u8], d: Description) -> usize
+    requires { ⌜ length (now text) ≤ 4096 ⌝ }
+    ensures { λ r. ⌜ (r ≡ roomOf (now (text .entry)) d) × (r ≤ 8194) ⌝ }
+{
+    let start = d.values[1] as usize;
+    let stop = d.values[2] as usize;
+    let first = command_room(text, start);
+    let second = command_room(text, stop);
+    first + second
+}
+
+// Where the tokens of a service's two commands are, from the place o on.
+fn place_commands(text: &[u8], d: Description, o: usize) -> Commands
+    requires { ⌜ (length (now text) ≤ 4096) × (o < 4294967296) ⌝ }
+    ensures { λ r. ⌜ r ≡ commandsAt o (now (text .entry)) d ⌝ }
+{
+    let start = d.values[1] as usize;
+    let stop = d.values[2] as usize;
+    let first = command_count(text, start);
+    let second = command_count(text, stop);
+    let room = command_room(text, start);
+    Commands {
+        start: Tokens {
+            at: o,
+            count: first,
+        },
+        stop: Tokens {
+            at: o + room,
+            count: second,
+        },
+    }
+}
+
+// Where the tokens of each service are, put into the places given.
+fn place_all(lent: &[u8], ends: &[usize], n: usize, ds: [Description; MAX_SERVICES], none: [Commands; MAX_SERVICES]) -> [Commands; MAX_SERVICES]
+    requires { ⌜ (n ≤ maxServices) × Short (textAt (now lent) (now ends)) n ⌝ }
+    ensures { λ r. ⌜ r ≡ commandsFrom (textAt (now (lent .entry)) (now (ends .entry))) ds 0 none 0 n ⌝ }
+{
+    let mut all = none;
+    let mut o: usize = 0;
+    let mut j: usize = 0;
+    while j < n {
+        let text = text_at(lent, ends, j);
+        let d = ds[j];
+        all[j] = place_commands(text, d, o);
+        o += room_of(text, d);
+        j += 1;
+    }
+    all
+}
+
+// The room that all tokens take.
+fn room_for(lent: &[u8], ends: &[usize], n: usize, ds: [Description; MAX_SERVICES]) -> usize
+    requires { ⌜ (n ≤ maxServices) × Short (textAt (now lent) (now ends)) n ⌝ }
+    ensures { λ r. ⌜ r ≡ length (bytesFrom (textAt (now (lent .entry)) (now (ends .entry))) ds 0 n) ⌝ }
+{
+    let mut o: usize = 0;
+    let mut j: usize = 0;
+    while j < n {
+        let text = text_at(lent, ends, j);
+        let d = ds[j];
+        o += room_of(text, d);
+        j += 1;
+    }
+    o
+}
+
+// Writes the tokens of a service's two commands from the place o on.
+fn write_commands(text: &[u8], d: Description, tokens: &mut [u8], o: usize)
+    requires { ⌜ (length (now text) ≤ 4096) × (o < 4294967296) ⌝ }
+    ensures { λ _. ⌜ now (tokens .exit) ≡ sets (now (tokens .entry)) o (commandBytes (now (text .entry)) (valueOf d 1) ++ commandBytes (now (text .entry)) (valueOf d 2)) ⌝ }
+{
+    let start = d.values[1] as usize;
+    let stop = d.values[2] as usize;
+    write_command(text, start, tokens, o);
+    let room = command_room(text, start);
+    let p = o + room;
+    write_command(text, stop, tokens, p);
+}
+
+// Writes the tokens of all services from the start of the buffer on.
+fn write_all(lent: &[u8], ends: &[usize], n: usize, ds: [Description; MAX_SERVICES], tokens: &mut [u8])
+    requires { ⌜ (n ≤ maxServices) × Short (textAt (now lent) (now ends)) n ⌝ }
+    ensures { λ _. ⌜ now (tokens .exit) ≡ sets (now (tokens .entry)) 0 (bytesFrom (textAt (now (lent .entry)) (now (ends .entry))) ds 0 n) ⌝ }
+{
+    let mut o: usize = 0;
+    let mut j: usize = 0;
+    while j < n {
+        let text = text_at(lent, ends, j);
+        let d = ds[j];
+        write_commands(text, d, tokens, o);
+        o += room_of(text, d);
+        j += 1;
+    }
+}
+
+// What is beside a refusal: the table of no services, and no commands.
+fn refuse(answer: Answer) -> Loaded
+    ensures { λ r. ⌜ r ≡ record { answer = answer; table = noServices; commands = noCommands } ⌝ }
+{
+    let settings = Settings::default();
+    let none = Tokens { at: 0, count: 0 };
+    let commands = Commands {
+        start: none,
+        stop: none,
+    };
+    Loaded {
+        answer,
+        table: Table {
+            count: 0,
+            services: [settings; MAX_SERVICES],
+        },
+        commands: [commands; MAX_SERVICES],
+    }
+}
+
+// The last of the load: 25, or the tokens written and the table told.
+fn store(
+    lent: &[u8],
+    ends: &[usize],
+    n: usize,
+    ds: [Description; MAX_SERVICES],
+    services: [Settings; MAX_SERVICES],
+    tokens: &mut [u8],
+) -> Loaded
+    requires { ⌜ (n ≤ maxServices) × Short (textAt (now lent) (now ends)) n ⌝ }
+    ensures { λ r. ⌜ _≡_ {A = Outcome} (record { loaded = r; buffer = now (tokens .exit) }) (stored (textAt (now (lent .entry)) (now (ends .entry))) (now (tokens .entry)) n ds services) ⌝ }
+{
+    let room = room_for(lent, ends, n, ds);
+    if room <= tokens.len() {
+        write_all(lent, ends, n, ds, tokens);
+        let none = Tokens { at: 0, count: 0 };
+        let unplaced = Commands {
+            start: none,
+            stop: none,
+        };
+        let commands = place_all(lent, ends, n, ds, [unplaced; MAX_SERVICES]);
+        let answer = Answer::Accepted;
+        return Loaded {
+            answer,
+            table: Table { count: n, services },
+            commands,
+        };
+    }
+    refuse(Answer::Refused {
+        number: 25,
+        service: 0,
+        line: 0,
+    })
+}
+
+// 16, before the tokens.
+fn store_acyclic(
+    lent: &[u8],
+    ends: &[usize],
+    n: usize,
+    ds: [Description; MAX_SERVICES],
+    services: [Settings; MAX_SERVICES],
+    tokens: &mut [u8],
+) -> Loaded
+    requires { ⌜ (n ≤ maxServices) × Short (textAt (now lent) (now ends)) n ⌝ }
+    ensures { λ r. ⌜ _≡_ {A = Outcome} (record { loaded = r; buffer = now (tokens .exit) }) (acyclic (textAt (now (lent .entry)) (now (ends .entry))) (now (tokens .entry)) n ds services) ⌝ }
+{
+    let low = lowest_cyclic(services, n);
+    if n <= low {
+        return store(lent, ends, n, ds, services, tokens);
+    }
+    refuse(Answer::Refused {
+        number: 16,
+        service: low,
+        line: 0,
+    })
+}
+
+// The dependencies, 15, before the cycle.
+fn link_set(lent: &[u8], ends: &[usize], n: usize, ds: [Description; MAX_SERVICES], tokens: &mut [u8]) -> Loaded
+    requires { ⌜ (n ≤ maxServices) × Short (textAt (now lent) (now ends)) n ⌝ }
+    ensures { λ r. ⌜ _≡_ {A = Outcome} (record { loaded = r; buffer = now (tokens .exit) }) (withServices (textAt (now (lent .entry)) (now (ends .entry))) (now (tokens .entry)) n ds (servicesFrom (nameAt (now (lent .entry)) (now (ends .entry))) (textAt (now (lent .entry)) (now (ends .entry))) ds n (replicate maxServices defaultSettings) 0 n)) ⌝ }
+{
+    let made = make_services(lent, ends, n, ds);
+    let answer = made.answer;
+    let Answer::Accepted = answer else {
+        return refuse(answer);
+    };
+    let services = made.services;
+    store_acyclic(lent, ends, n, ds, services, tokens)
+}
+
+// The texts in turn, before their dependencies.
+fn read_set(lent: &[u8], ends: &[usize], n: usize, tokens: &mut [u8]) -> Loaded
+    requires { ⌜ (n ≤ maxServices) × Short (textAt (now lent) (now ends)) n ⌝ }
+    ensures { λ r. ⌜ _≡_ {A = Outcome} (record { loaded = r; buffer = now (tokens .exit) }) (withDescriptions (nameAt (now (lent .entry)) (now (ends .entry))) (textAt (now (lent .entry)) (now (ends .entry))) (now (tokens .entry)) n (descriptionsFrom (textAt (now (lent .entry)) (now (ends .entry))) noDescriptions 0 n)) ⌝ }
+{
+    let read = read_texts(lent, ends, n);
+    let answer = read.answer;
+    let Answer::Accepted = answer else {
+        return refuse(answer);
+    };
+    let ds = read.descriptions;
+    link_set(lent, ends, n, ds, tokens)
+}
+
+// All names, then all sizes, before the texts.
+fn load_set(lent: &[u8], ends: &[usize], n: usize, tokens: &mut [u8]) -> Loaded
+    requires { ⌜ n ≤ maxServices ⌝ }
+    ensures { λ r. ⌜ _≡_ {A = Outcome} (record { loaded = r; buffer = now (tokens .exit) }) (loadSet (nameAt (now (lent .entry)) (now (ends .entry))) (textAt (now (lent .entry)) (now (ends .entry))) n (now (tokens .entry))) ⌝ }
+{
+    let names = check_names(lent, ends, n);
+    let Answer::Accepted = names else {
+        return refuse(names);
+    };
+    let sizes = check_sizes(lent, ends, n);
+    let Answer::Accepted = sizes else {
+        return refuse(sizes);
+    };
+    read_set(lent, ends, n, tokens)
+}
+
+// Loads a set: lent has each service's name and text in turn, ends the position where each ends. The tokens of the commands go to the
+// lent buffer; a refusal leaves it as it was.
+pub fn load(lent: &[u8], ends: &[usize], tokens: &mut [u8]) -> Loaded
+    ensures { λ r. ⌜ _≡_ {A = Outcome} (record { loaded = r; buffer = now (tokens .exit) }) (load (now (lent .entry)) (now (ends .entry)) (now (tokens .entry))) ⌝ }
+{
+    let n = ends.len() / 2;
+    if n <= MAX_SERVICES {
+        let positioned = is_positioned(lent, ends);
+        if positioned {
+            return load_set(lent, ends, n, tokens);
+        }
+        return refuse(Answer::Refused {
+            number: 2,
+            service: 0,
+            line: 0,
+        });
+    }
+    refuse(Answer::Refused {
+        number: 1,
+        service: 0,
+        line: 0,
+    })
 }

@@ -3,17 +3,20 @@ use mathlib.Core.Path.{_≡_, refl, sym, ap, _∙_}
 use mathlib.Core.List.{List, [], _∷_}
 use mathlib.Core.Bool.{Bool, true, false, _||_}
 use Prim.Native.Nat.{ℕ, zero, suc, _+_, _-_, _≤_, _<_, zero-le, suc-le-suc}
-use native.Mathlib.Nat.{not-suc-le-zero}
+use native.Mathlib.Nat.{not-suc-le-zero, add-zero}
 use native.Mathlib.Numerals.{add-one}
 use native.Mathlib.Omega.{arith}
 use lib.Dec.{eqb, leb}
-use lib.ListN.{length, getD, take, drop, drop-of-length-le, length-drop}
+use lib.ListN.{length, getD, take, drop, drop-of-length-le, length-drop, List·getD-eq-default}
 use lib.Seq.{drop-cons, drop-drop}
-use borrow.Author.Tests.{le-leb}
+use borrow.Author.Tests.{le-leb, leb-true, leb-false}
+use Rattle.base.proofs.Tests.{no-ft}
 use Rattle.base.specs.Folds.{pick}
 use Rattle.text.specs.Strings.{partOf}
-use Rattle.text.specs.Bytes.{isNewline, isSign}
-use Rattle.text.specs.Lines.{lineOf, grow, linesOf, fault, nameEnd, whiteEnd, opening}
+use Rattle.text.specs.Bytes.{isWhite, isNewline, isPropertyByte, isSign}
+use Rattle.text.specs.Lines.{lineOf, grow, linesOf, fault, saysNothing, nameEnd, whiteEnd, opening}
+use Rattle.text.proofs.Runs.{run-within}
+use Rattle.text.specs.declared.Opening.{Opening}
 use Rattle.text.specs.declared.Opening.the-variants.{Nothing, Named, Bad}
 
 module _ (s : List ℕ) (k : ℕ) where
@@ -75,6 +78,24 @@ module _ (s : List ℕ) (i : ℕ) {e : ℕ} (h : i < length s) (at : e ≡ i + l
       let p : i + suc (length (lineOf (drop i s))) ≡ e + 1 = omega arith in
       rw (line-part, lines-split (drop i s) (omega (arith, length-drop i s)), drop-drop (suc (length (lineOf (drop i s)))) i s, p)
 
+-- the bytes from i to the end of its line
+pub line-part-any : (s : List ℕ) (i : ℕ) {e : ℕ} → e ≡ i + length (lineOf (drop i s)) → partOf s i e ≡ lineOf (drop i s)
+unfolding partOf
+line-part-any s i {e} q = by (leb (length s) i) refl
+  where
+    nothing : (t : Bool) → pick t (take 0 (drop i s)) [] ≡ []
+    nothing true = refl
+    nothing false = refl
+
+    by : (t : Bool) → leb (length s) i ≡ t → partOf s i e ≡ lineOf (drop i s)
+    by false h = line-part s i (leb-false (length s) i h) q
+    by true h =
+        let o : length s ≤ i = leb-true (length s) i h in
+        let n : lineOf (drop i s) ≡ [] = line-none s i o in
+        let z : e ≡ i = q ∙ ap (λ (l : List ℕ). i + length l) n ∙ add-zero i in
+        let d : i - i ≡ 0 = omega arith in
+        rw (n, z, d, le-leb i i (omega arith)) (nothing (leb i (length s)))
+
 -- how a line begins, by the places and bytes that were found; the premises stand as the callees' contracts give them
 pub opening-found : (l : List ℕ) {a e s f y : ℕ} {g : Bool} → a ≡ whiteEnd l 0 → e ≡ nameEnd l a → s ≡ whiteEnd l e
     → f ≡ getD l a 0 → y ≡ getD l s 0 → g ≡ isSign y
@@ -82,3 +103,38 @@ pub opening-found : (l : List ℕ) {a e s f y : ℕ} {g : Bool} → a ≡ whiteE
     (pick (eqb a e) (Bad (fault 7 a)) (pick g (Named (record { from = a; end = e; value = s + 1 })) (Bad (fault 7 s))))
 unfolding opening
 opening-found l p q r u v w = rw (w, v, u, r, q, p)
+
+-- the places of an opening are within n bytes
+abbrev pub Inside : ℕ → Opening → Type 0
+Inside n Nothing = Unit {0}
+Inside n (Named s) = (s .from ≤ n) × (s .value ≤ n)
+Inside n (Bad f) = f .at ≤ n
+
+-- a sign is a byte of the line
+sign-inside : (l : List ℕ) (s : ℕ) → isSign (getD l s 0) ≡ true → s < length l
+sign-inside l s h = by (leb (length l) s) refl
+  where
+    by : (t : Bool) → leb (length l) s ≡ t → s < length l
+    by false e = leb-false (length l) s e
+    by true e = no-ft (sym (ap isSign (List·getD-eq-default l 0 (leb-true (length l) s e))) ∙ h)
+
+pub opening-inside : (l : List ℕ) → Inside (length l) (opening l)
+unfolding opening
+opening-inside l =
+    by (saysNothing l (whiteEnd l 0)) (eqb (whiteEnd l 0) (nameEnd l (whiteEnd l 0))) (isSign (getD l (whiteEnd l (nameEnd l (whiteEnd l 0))) 0)) refl
+  where
+    a : whiteEnd l 0 ≤ length l
+    a = run-within isWhite l 0 zero-le refl
+
+    e : nameEnd l (whiteEnd l 0) ≤ length l
+    e = run-within isPropertyByte l (whiteEnd l 0) a refl
+
+    s : whiteEnd l (nameEnd l (whiteEnd l 0)) ≤ length l
+    s = run-within isWhite l (nameEnd l (whiteEnd l 0)) e refl
+
+    by : (x y z : Bool) → isSign (getD l (whiteEnd l (nameEnd l (whiteEnd l 0))) 0) ≡ z
+        → Inside (length l) (pick x Nothing (pick y (Bad (fault 7 (whiteEnd l 0))) (pick z (Named (record { from = whiteEnd l 0; end = nameEnd l (whiteEnd l 0); value = whiteEnd l (nameEnd l (whiteEnd l 0)) + 1 })) (Bad (fault 7 (whiteEnd l (nameEnd l (whiteEnd l 0))))))))
+    by true y z h = tt
+    by false true z h = a
+    by false false true h = (a, omega (arith, sign-inside l (whiteEnd l (nameEnd l (whiteEnd l 0))) h))
+    by false false false h = s

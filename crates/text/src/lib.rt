@@ -103,6 +103,13 @@ pub fn part(l: &[u8], a: usize, e: usize) -> &[u8]
     }
 }
 
+// The bytes from a on, or none past the end.
+pub fn tail(l: &[u8], a: usize) -> &[u8]
+    ensures { λ r. ⌜ now r ≡ drop a (now (l .entry)) ⌝ }
+{
+    if a <= l.len() { &l[a..] } else { &l[..0] }
+}
+
 // The byte at i, or 0 past the end.
 pub fn byte_at(l: &[u8], i: usize) -> u8
     ensures { λ r. ⌜ r ≡ getD (now (l .entry)) i 0 ⌝ }

@@ -1,5 +1,5 @@
 -- The laws of a value's faults, tokens and sizes, as the loops over its bytes go: at the end, and at a byte.
-use mathlib.Core.Path.{_≡_, refl}
+use mathlib.Core.Path.{_≡_, refl, subst}
 use mathlib.Core.Bool.{Bool, true, false}
 use mathlib.Core.List.{List, [], _∷_, map}
 use Prim.Native.Nat.{ℕ, zero, suc, _+_, _-_, _≤_, _<_, zero-le, suc-le-suc}
@@ -9,15 +9,18 @@ use lib.Dec.{eqb}
 use lib.ListN.{length, getD, drop, drop-of-length-le}
 use lib.Seq.{drop-cons}
 use Rattle.base.specs.Folds.{pick}
+use native.Mathlib.Nat.{zero-add}
 use Rattle.text.specs.Lines.{fault}
+use Rattle.text.specs.declared.Verdict.{Verdict}
+use Rattle.text.specs.declared.Verdict.the-variants.{Good, Bad}
 use Rattle.value.specs.declared.Mode.{Mode}
 use Rattle.value.specs.declared.Step.{Step}
 use Rattle.value.specs.declared.Step.the-variants.{Skip, Quote, Keep, Close, Malformed}
 use Rattle.value.specs.declared.Sizes.{Sizes}
 use Rattle.value.specs.declared.Scan.{Scan}
-use Rattle.value.specs.declared.Scan.the-variants.{Bad}
+use Rattle.value.specs.declared.Scan.the-variants.{Tokens, Bad as BadValue}
 use Rattle.value.specs.Steps.{between, stepOf}
-use Rattle.value.specs.Values.{Mark, kept, close, ended, onward, faultFrom, marked, marksFrom, byteOf, counted, sizesFrom, scanned, leading, wordOf}
+use Rattle.value.specs.Values.{Mark, kept, close, ended, onward, faultFrom, marked, marksFrom, byteOf, counted, noSizes, sizesFrom, scanned, scanOf, leading, wordOf}
 
 -- the answer for what is left, from the mode, the last quote, the place and the sizes so far
 abbrev pub scanFrom : Mode → ℕ → ℕ → Sizes → List ℕ → Scan
@@ -29,7 +32,7 @@ scanOn (Skip m) q i z l = scanFrom m q (i + 1) z l
 scanOn (Quote m) q i z l = scanFrom m i (i + 1) z l
 scanOn (Keep m) q i z l = scanFrom m q (i + 1) (counted z (kept 0)) l
 scanOn (Close m) q i z l = scanFrom m q (i + 1) (counted z close) l
-scanOn Malformed q i z l = Bad (fault 7 i)
+scanOn Malformed q i z l = BadValue (fault 7 i)
 
 module _ (m : Mode) (q i : ℕ) (z : Sizes) (s : List ℕ) (k : ℕ) where
   pub scan-end : length s ≤ k → scanFrom m q i z (drop k s) ≡ scanned (ended m q i) (pick (m .token) (counted z close) z)
@@ -179,3 +182,44 @@ leading-fits (suc n) (close ∷ ks) = zero-le
 pub word-fits : (l : List ℕ) → length (wordOf l) ≤ 33
 unfolding wordOf
 word-fits l = leading-fits 33 (marksFrom between l)
+
+-- a fault is met within n bytes
+abbrev pub FaultInside : ℕ → Verdict → Type 0
+FaultInside n Good = Unit {0}
+FaultInside n (Bad f) = f .at ≤ n
+
+abbrev pub ScanInside : ℕ → Scan → Type 0
+ScanInside n (Tokens z) = Unit {0}
+ScanInside n (BadValue f) = f .at ≤ n
+
+fault-inside : (l : List ℕ) (m : Mode) (q i : ℕ) → q ≤ i → FaultInside (i + length l) (faultFrom m q i l)
+unfolding faultFrom
+fault-inside [] m q i h = by (m .escaped) (m .quoted)
+  where
+    by : (x y : Bool) → FaultInside (i + 0) (pick x (Bad (fault 9 (i - 1))) (pick y (Bad (fault 8 q)) Good))
+    by true y = omega arith
+    by false true = omega arith
+    by false false = tt
+fault-inside (b ∷ bs) m q i h =
+    by (stepOf m b) (λ m′ q′ k. subst (λ (n : ℕ). FaultInside n (faultFrom m′ q′ (i + 1) bs)) more (fault-inside bs m′ q′ (i + 1) k))
+  where
+    more : (i + 1) + length bs ≡ i + suc (length bs)
+    more = omega arith
+
+    by : (r : Step) → ((m′ : Mode) (q′ : ℕ) → q′ ≤ i + 1 → FaultInside (i + suc (length bs)) (faultFrom m′ q′ (i + 1) bs))
+        → FaultInside (i + suc (length bs)) (onward r q i (λ m′ q′. faultFrom m′ q′ (i + 1) bs))
+    by (Skip n) on = on n q (omega arith)
+    by (Quote n) on = on n i (omega arith)
+    by (Keep n) on = on n q (omega arith)
+    by (Close n) on = on n q (omega arith)
+    by Malformed on = omega arith
+
+pub scan-inside : (l : List ℕ) → ScanInside (length l) (scanOf l)
+unfolding scanOf
+scan-inside l =
+    by (faultFrom between 0 0 l) (sizesFrom noSizes (marksFrom between l))
+    (subst (λ (n : ℕ). FaultInside n (faultFrom between 0 0 l)) (zero-add (length l)) (fault-inside l between 0 0 zero-le))
+  where
+    by : (v : Verdict) (z : Sizes) → FaultInside (length l) v → ScanInside (length l) (scanned v z)
+    by Good z h = tt
+    by (Bad f) z h = h

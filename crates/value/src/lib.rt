@@ -80,10 +80,12 @@ pub fn bare_step(m: Mode, b: u8) -> Step
 pub fn quote_step(m: Mode) -> Step
     ensures { λ r. ⌜ r ≡ quoteStep m ⌝ }
 {
+    // A closing quote leaves the token open.
+    let token = true;
     let stretch = Mode {
         escaped: false,
         quoted: !m.quoted,
-        token: true,
+        token,
         comment: false,
     };
     if m.quoted {
@@ -209,13 +211,17 @@ pub fn scan_value(s: &[u8]) -> Scan
         }
         i = after;
     }
-    if m.escaped {
+    // A last backslash comes before an open quote.
+    let escaped = m.escaped;
+    let quoted = m.quoted;
+    let cut = escaped;
+    if cut {
         return Scan::Bad(Fault {
             number: 9,
             at: before(i),
         });
     }
-    if m.quoted {
+    if quoted {
         return Scan::Bad(Fault {
             number: 8,
             at: quote,

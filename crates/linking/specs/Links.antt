@@ -1,31 +1,31 @@
 -- The dependencies of a set as sets of services: 15 "a dependency on a service not in the set", "by service and line";
 -- 16 "the three kinds together have a cycle". With them the settings of each service.
-use Prim.Native.Nat.{ℕ, zero, suc, _+_, _^_}
-use mathlib.Core.Bool.{Bool, true, false, not}
-use mathlib.Core.List.{List}
-use lib.Dec.{eqb, ltb}
+use Prim.Native.Nat.{_+_, _^_, suc, zero, ℕ}
 use lib.Bits.{bitOr}
-use lib.ListN.{getD, set}
-use Rattle.base.specs.Folds.{pick, first}
-use Rattle.base.specs.Sets.{hasBit}
+use lib.Dec.{eqb, leb, ltb}
+use lib.ListN.{getD, replicate, set}
+use mathlib.Core.Bool.{not}
+use mathlib.Core.List.{List}
+use Rattle.base.specs.Folds.{first, pick}
 use Rattle.base.specs.Links.{reach}
-use Rattle.service.specs.declared.Kind.{Kind}
-use Rattle.service.specs.declared.Kind.the-variants.{Process, Scripted, Internal}
-use Rattle.service.specs.declared.Settings.{Settings}
-use Rattle.service.specs.Settings.{noSettings}
+use Rattle.base.specs.Sets.{hasBit}
+use Rattle.service.specs.Limits.{maxServices}
 use Rattle.service.specs.Numbers.{signalAt}
+use Rattle.service.specs.Settings.{defaultSettings, noSettings}
+use Rattle.service.specs.declared.Kind.{Kind}
+use Rattle.service.specs.declared.Kind.the-variants.{Internal, Process, Scripted}
+use Rattle.service.specs.declared.Settings.{Settings}
 use Rattle.text.specs.Lines.{fault}
 use Rattle.text.specs.declared.Verdict.{Verdict}
-use Rattle.text.specs.declared.Verdict.the-variants.{Good, Bad}
+use Rattle.text.specs.declared.Verdict.the-variants.{Bad as Bad, Good as Good}
+use Rattle.description.specs.Settings.{dependencyAt, descriptionAt, valueOf, wordAt}
 use Rattle.description.specs.declared.Description.{Description}
-use Rattle.description.specs.Settings.{blank, valueOf, dependencyAt, wordAt}
-use Rattle.lent.specs.declared.Answer.{Answer}
-use Rattle.lent.specs.declared.Answer.the-variants.{Accepted}
-use Rattle.loader.specs.declared.Links.{Links}
-use Rattle.loader.specs.declared.Linked.{Linked}
-use Rattle.loader.specs.declared.Services.{Services}
 use Rattle.lent.specs.Checks.{find}
-use Rattle.loader.specs.Texts.{refusedIn}
+use Rattle.lent.specs.Refusals.{refusedIn}
+use Rattle.lent.specs.declared.Answer.the-variants.{Accepted}
+use Rattle.linking.specs.declared.Linked.{Linked}
+use Rattle.linking.specs.declared.Links.{Links}
+use Rattle.linking.specs.declared.Services.{Services}
 
 abbrev pub noLinks : Links
 noLinks = record { hard = 0; milestone = 0; soft = 0 }
@@ -69,9 +69,6 @@ settingsOf d l = record {
   soft = l .soft;
 }
 
-abbrev pub descriptionAt : List Description → ℕ → Description
-descriptionAt ds j = getD ds j blank
-
 abbrev pub servicesOn : List ℕ → ℕ → Verdict → List Settings → Services → Services
 servicesOn text j Good vs on = on
 servicesOn text j (Bad f) vs on = record { answer = refusedIn text j f; services = vs }
@@ -83,6 +80,14 @@ servicesFrom name text ds n vs j (suc m) =
     let d = descriptionAt ds j in
     let r = linksFrom name n (text j) d noLinks 0 (d .count) in
     servicesOn (text j) j (r .answer) vs (servicesFrom name text ds n (set vs j (settingsOf d (r .links))) (j + 1) m)
+
+abbrev pub noneMade : Services
+noneMade = record { answer = Accepted; services = replicate maxServices defaultSettings }
+
+-- the settings of a set of n services; for more than there are places nothing is made
+unfoldable pub servicesIn : (ℕ → List ℕ) → (ℕ → List ℕ) → List Description → ℕ → Services
+servicesIn name text ds n =
+    pick (leb n maxServices) (servicesFrom name text ds n (replicate maxServices defaultSettings) 0 n) noneMade
 
 -- all that a service depends on, "the three kinds together"
 abbrev pub linksAt : List Settings → ℕ → ℕ

@@ -4,24 +4,29 @@ use Prim.Native.Nat.{ℕ, zero, suc, _+_}
 use mathlib.Core.Bool.{Bool, true, false}
 use mathlib.Core.List.{List, [], _∷_, _++_}
 use lib.Dec.{eqb}
-use lib.ListN.{set, replicate}
+use lib.ListN.{length, set, replicate}
 use Rattle.base.specs.Folds.{pick}
 use Rattle.service.specs.Limits.{maxServices}
-use Rattle.value.specs.Steps.{between}
-use Rattle.value.specs.Values.{noSizes, marksFrom, sizesFrom, written}
-use Rattle.value.specs.declared.Sizes.{Sizes}
+use Rattle.value.specs.Values.{scanOf, written}
+use Rattle.value.specs.declared.Scan.{Scan}
+use Rattle.value.specs.declared.Scan.the-variants.{Tokens as Whole, Bad as BadValue}
 use Rattle.description.specs.declared.Description.{Description}
-use Rattle.description.specs.Settings.{valueOf, valueAt}
-use Rattle.loader.specs.declared.Tokens.{Tokens}
-use Rattle.loader.specs.declared.Commands.{Commands}
-use Rattle.loader.specs.Links.{descriptionAt}
+use Rattle.description.specs.Settings.{descriptionAt, valueOf, valueAt}
+use Rattle.storing.specs.declared.Tokens.{Tokens}
+use Rattle.storing.specs.declared.Commands.{Commands}
 
 -- the command whose value begins at an offset of a text; at 0 there is none
 unfoldable pub commandBytes : List ℕ → ℕ → List ℕ
 commandBytes text at = pick (eqb at 0) [] (written (valueAt text at))
 
-unfoldable pub commandSizes : List ℕ → ℕ → Sizes
-commandSizes text at = pick (eqb at 0) noSizes (sizesFrom noSizes (marksFrom between (valueAt text at)))
+-- how many tokens a value has
+abbrev pub tokensIn : Scan → ℕ
+tokensIn (Whole z) = z .tokens
+tokensIn (BadValue f) = 0
+
+-- "Commands are lists of tokens": how many the command has
+unfoldable pub commandCount : List ℕ → ℕ → ℕ
+commandCount text at = pick (eqb at 0) 0 (tokensIn (scanOf (valueAt text at)))
 
 -- what goes to the buffer from service j on, with m left
 unfoldable pub bytesFrom : (ℕ → List ℕ) → List Description → ℕ → ℕ → List ℕ
@@ -36,17 +41,20 @@ noTokens = record { at = 0; count = 0 }
 abbrev pub noCommands : List Commands
 noCommands = replicate maxServices (record { start = noTokens; stop = noTokens })
 
--- where the two commands' tokens are, which begin at the place o
-abbrev pub commandsAt : ℕ → Sizes → Sizes → Commands
-commandsAt o y z = record {
-  start = record { at = o; count = y .tokens };
-  stop = record { at = o + y .room; count = z .tokens };
+-- where the tokens of a service's two commands are, when they begin at the place o
+abbrev pub commandsAt : ℕ → List ℕ → Description → Commands
+commandsAt o text d = record {
+  start = record { at = o; count = commandCount text (valueOf d 1) };
+  stop = record { at = o + length (commandBytes text (valueOf d 1)); count = commandCount text (valueOf d 2) };
 }
+
+-- the room that a service's two commands take
+abbrev pub roomOf : List ℕ → Description → ℕ
+roomOf text d = length (commandBytes text (valueOf d 1)) + length (commandBytes text (valueOf d 2))
 
 -- from service j on with m left; cs holds those before it, whose tokens end at the place o
 unfoldable pub commandsFrom : (ℕ → List ℕ) → List Description → ℕ → List Commands → ℕ → ℕ → List Commands
 commandsFrom text ds o cs j zero = cs
 commandsFrom text ds o cs j (suc m) =
-    let y = commandSizes (text j) (valueOf (descriptionAt ds j) 1) in
-    let z = commandSizes (text j) (valueOf (descriptionAt ds j) 2) in
-    commandsFrom text ds (o + y .room + z .room) (set cs j (commandsAt o y z)) (j + 1) m
+    let d = descriptionAt ds j in
+    commandsFrom text ds (o + roomOf (text j) d) (set cs j (commandsAt o (text j) d)) (j + 1) m

@@ -1,0 +1,23 @@
+-- `complete` meets its contract.
+use Rattle.description.specs.Texts.{completion}
+use borrow.Author.Needs.{needs}
+use Rattle.description.proofs.complete.Statement.{statement}
+use Rattle.description.proofs.complete.Tie as tie
+use Rattle.description.proofs.complete.Reads as reads
+use Rattle.description.proofs.complete.Lts as lts
+
+returns : tie.Need-returns
+unfolding completion
+returns c = rw (c .if1 .taken)
+
+returns-2 : tie.Need-returns-2
+unfolding completion
+returns-2 c = rw (c .before .if1 .left, c .if2 .taken)
+
+returns-3 : tie.Need-returns-3
+unfolding completion
+returns-3 c = rw (c .before .if1 .left, c .if2 .left)
+
+pub complete-spec : {M : Type 1} → statement M
+complete-spec =
+    tie.close (tie.spec (λ c. search needs) (λ c. search needs) returns returns-2 returns-3)

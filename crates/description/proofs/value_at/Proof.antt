@@ -1,0 +1,18 @@
+-- `value_at` meets its contract: the part from an offset to the end of its line is that line's rest.
+use mathlib.Core.Path.{_∙_}
+use Rattle.text.proofs.Lines.{line-part-any}
+use Rattle.description.specs.Settings.{valueAt}
+use borrow.Author.Needs.{needs}
+use Rattle.description.proofs.value_at.Statement.{statement}
+use Rattle.description.proofs.value_at.Tie as tie
+use Rattle.description.proofs.value_at.Reads as reads
+use Rattle.description.proofs.value_at.Lts as lts
+use Rattle.text.proofs.line_end.Reads as line-end-reads
+use Rattle.text.proofs.part.Reads as part-reads
+
+returns : tie.Need-returns
+unfolding valueAt
+returns c = c .part .ensures ∙ line-part-any _ _ (c .before .line-end .ensures)
+
+pub value-at-spec : {M : Type 1} → statement M
+value-at-spec = tie.close (tie.spec (λ c κs. search needs) (λ c κs. search needs) returns)

@@ -1,0 +1,16 @@
+-- `write_word_at` meets its contract.
+use Rattle.description.specs.Settings.{wordAt}
+use borrow.Author.Needs.{needs}
+use Rattle.description.proofs.write_word_at.Statement.{statement}
+use Rattle.description.proofs.write_word_at.Tie as tie
+use Rattle.description.proofs.write_word_at.Reads as reads
+use Rattle.description.proofs.write_word_at.Lts as lts
+use Rattle.description.proofs.value_at.Reads as value-at-reads
+use Rattle.value.proofs.write_word.Reads as write-word-reads
+
+returns : tie.Need-returns
+unfolding wordAt
+returns c = rw (← c .before .before .before .before .value-at .ensures) (c .before .before .write-word .ensures)
+
+pub write-word-at-spec : {M : Type 1} → statement M
+write-word-at-spec = tie.close (tie.spec (λ c κs. search needs) (λ c κs. search needs) (λ c. search needs) returns)

@@ -1,0 +1,50 @@
+-- What the code finds of the rows of links is the lowest service on a cycle.
+use Prim.Native.Nat.{_<_, _≤_, ℕ}
+use borrow.Author.Tests.{le-leb, lt-leb, lt-ltb}
+use lib.Dec.{leb, ltb}
+use mathlib.Core.Bool.{Bool, _&&_, false}
+use mathlib.Core.List.{List}
+use mathlib.Core.Path.{_∙_, _≡_, ap, refl, sym}
+use native.Mathlib.Omega.{arith}
+use Rattle.base.specs.Folds.{first, pick}
+use Rattle.base.specs.Links.{cyclic, reach}
+use Rattle.base.specs.Sets.{hasBit}
+use Rattle.base.proofs.Below.{first-as, some-false}
+use Rattle.base.proofs.Bits.{hasBit-none}
+use Rattle.base.proofs.Filled.{Filled}
+use Rattle.base.proofs.Sets.{first-empty}
+use Rattle.service.specs.Limits.{maxServices}
+use Rattle.service.specs.declared.Settings.{Settings}
+use Rattle.linking.specs.Links.{linksAt, lowestCyclic}
+use Rattle.reach.specs.Rows.{mostRows, rowsAs}
+use Rattle.reach.proofs.Rounds.{reach-as}
+
+module _ (rows : List ℕ) (n : ℕ) (h : n ≤ maxServices) where
+  -- m is what the code found that s reaches, q whether s is in it
+  pub own-at : (s m : ℕ) (q : Bool) → s < n → m ≡ pick (leb n mostRows && ltb s n) (reach (rowsAs rows) n s) 0 → q ≡ hasBit m s
+      → q ≡ hasBit (reach (rowsAs rows) n s) s
+  own-at s m q l e g = g ∙ ap (λ (a : ℕ). hasBit a s) (e ∙ rw (le-leb n 32 h, lt-ltb s n l))
+
+  module _ (vs : List Settings) (f : Filled 0 (linksAt vs) 32 rows n) where
+    abbrev own : ℕ → Bool
+    own s = hasBit (reach (rowsAs rows) n s) s
+
+    lowest-as : first own n ≡ pick (leb n maxServices) (lowestCyclic vs n) n
+    unfolding lowestCyclic
+    lowest-as =
+        first-as own (λ s. hasBit (reach (linksAt vs) n s) s) n (λ i l. ap (λ (a : ℕ). hasBit a i) (reach-as (rowsAs rows) (linksAt vs) n (f .at) n i (omega arith) l))
+        ∙ ap (λ (b : Bool). pick b (first (λ s. hasBit (reach (linksAt vs) n s) s) n) n) (sym (le-leb n 32 h))
+
+    pub lowest-found : (r : ℕ) → r ≡ first (λ s. hasBit (reach (rowsAs rows) n s) s) n → r ≡ pick (leb n maxServices) (lowestCyclic vs n) n
+    lowest-found r e = e ∙ lowest-as
+
+    pub lowest-none : (q : Bool) → q ≡ (leb n mostRows && cyclic (rowsAs rows) n) → q ≡ false → n ≡ pick (leb n maxServices) (lowestCyclic vs n) n
+    unfolding cyclic
+    lowest-none q e g =
+        let c : cyclic (rowsAs rows) n ≡ false = rw (le-leb n 32 h) at (sym e ∙ g) in
+        first-empty 0 n refl
+        ∙ (first-as (hasBit 0) own n (λ i l. hasBit-none i ∙ sym (some-false own n .0 c i l)) ∙ lowest-as)
+
+-- more services than places
+pub lowest-past : (vs : List Settings) (n : ℕ) → maxServices < n → n ≡ pick (leb n maxServices) (lowestCyclic vs n) n
+lowest-past vs n h = rw (lt-leb n 32 h)

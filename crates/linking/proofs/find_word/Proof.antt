@@ -1,0 +1,28 @@
+-- `find_word` meets its contract: the word that was written to the buffer is sought.
+use Prim.Native.Nat.{ℕ}
+use mathlib.Core.Path.{ap, _∙_}
+use mathlib.Core.List.{List}
+use denote.Ref.{now}
+use Rattle.value.proofs.Writing.{puts-part}
+use Rattle.description.proofs.Words.{word-at-fits}
+use Rattle.lent.specs.Parts.{nameAt}
+use Rattle.lent.specs.Checks.{find}
+use borrow.Author.Needs.{needs}
+use Rattle.linking.proofs.find_word.Statement.{statement}
+use Rattle.linking.proofs.find_word.Tie as tie
+
+returns : tie.Need-returns
+returns c =
+    c .find-name .ensures
+    ∙ ap (find (nameAt (now (c .before .before .before .before .before .before .before .before .before .args .lent)) (now (c .before .before .before .before .before .before .before .before .before .args .ends))) (c .before .before .before .before .before .before .before .before .before .args .n)) (c .before .part .ensures ∙ puts-part (word-at-fits _ _) (c .before .before .before .before .write-word-at .ensures))
+
+pub find-word-spec : {M : Type 1} → statement M
+find-word-spec =
+    tie.close
+    (tie.spec
+    (λ c. search needs)
+    (λ c κs. search needs)
+    (λ c. search needs)
+    (λ c κs. search needs)
+    (λ c κs. search needs)
+    returns)

@@ -1,0 +1,160 @@
+-- The laws of a load's outcome: the way on after a pass or a test, and the refusal in its place.
+-- ---- a pass, and a test
+use Prim.Native.Nat.{_<_, _≤_, ℕ}
+use borrow.Author.Tests.{le-leb, lt-leb}
+use lib.Dec.{leb}
+use lib.ListN.{length, replicate}
+use lib.Seq.{sets}
+use mathlib.Core.Bool.{Bool, false, true}
+use mathlib.Core.List.{List}
+use mathlib.Core.Path.{_∙_, _≡_, ap, sym}
+use Rattle.base.specs.Folds.{pick}
+use Rattle.service.specs.Limits.{maxServices}
+use Rattle.service.specs.Settings.{defaultSettings, noServices}
+use Rattle.service.specs.declared.Settings.{Settings}
+use Rattle.description.specs.declared.Description.{Description}
+use Rattle.loader.specs.Load.{Outcome, acyclic, load, loadSet, passed, refusedWith, stored, tested, withDescriptions, withServices}
+use Rattle.loader.specs.Texts.{descriptionsFrom, noDescriptions}
+use Rattle.loader.specs.declared.Descriptions.{Descriptions}
+use Rattle.loader.specs.declared.Loaded.{Loaded}
+use Rattle.lent.specs.Checks.{namesFrom, sizesFrom}
+use Rattle.lent.specs.Parts.{nameAt, positioned, serviceCount, textAt}
+use Rattle.lent.specs.declared.Answer.{Answer}
+use Rattle.lent.specs.declared.Answer.the-variants.{Accepted, Refused}
+use Rattle.linking.specs.Links.{lowestCyclic, noneMade, servicesFrom, servicesIn}
+use Rattle.linking.specs.declared.Services.{Services}
+use Rattle.storing.specs.Tokens.{bytesFrom, commandsFrom, noCommands}
+use Rattle.storing.specs.declared.Commands.{Commands}
+
+module _ (buffer : List ℕ) where
+  pub pass-on : {a : Answer} {o x : Outcome} → a ≡ Accepted → o ≡ x → o ≡ passed buffer a x
+  pass-on {a} {o} {x} e q = q ∙ sym (ap (λ (b : Answer). passed buffer b x) e)
+
+  pub pass-not : {a : Answer} {k s l : ℕ} (x : Outcome) {r : Loaded} → a ≡ Refused k s l → r ≡ record { answer = a; table = noServices; commands = noCommands }
+      → record { loaded = r; buffer = buffer } ≡ passed buffer a x
+  pass-not x e q =
+      ap (λ (y : Loaded). record { loaded = y; buffer = buffer }) q
+      ∙ (ap (λ (b : Answer). refusedWith buffer b) e ∙ sym (ap (λ (b : Answer). passed buffer b x) e))
+
+  pub test-on : {t : Bool} (k s : ℕ) {o x : Outcome} → t ≡ true → o ≡ x → o ≡ tested buffer t k s x
+  test-on k s {o} {x} e q = q ∙ sym (ap (λ (b : Bool). tested buffer b k s x) e)
+
+  pub test-not : {t : Bool} (k s : ℕ) (x : Outcome) {r : Loaded} → t ≡ false → r ≡ record { answer = Refused k s 0; table = noServices; commands = noCommands }
+      → record { loaded = r; buffer = buffer } ≡ tested buffer t k s x
+  test-not k s x e q =
+      ap (λ (y : Loaded). record { loaded = y; buffer = buffer }) q ∙ sym (ap (λ (b : Bool). tested buffer b k s x) e)
+
+-- ---- the last: 25
+
+module _ (text : ℕ → List ℕ) (buffer : List ℕ) (n : ℕ) (ds : List Description) (vs : List Settings) where
+  module _ {room : ℕ} (e : room ≡ length (bytesFrom text ds 0 n)) where
+    pub stored-fits : room ≤ length buffer → {b : List ℕ} {cs : List Commands} → b ≡ sets buffer 0 (bytesFrom text ds 0 n)
+        → cs ≡ commandsFrom text ds 0 noCommands 0 n
+        → record { loaded = record { answer = Accepted; table = record { count = n; services = vs }; commands = cs }; buffer = b } ≡ stored text buffer n ds vs
+    unfolding stored
+    stored-fits h {b} {cs} q p =
+        test-on buffer 25 0 (le-leb (length (bytesFrom text ds 0 n)) (length buffer) (rw (← e) h))
+        (ap (λ (l : List ℕ). record { loaded = record { answer = Accepted; table = record { count = n; services = vs }; commands = cs }; buffer = l }) q
+        ∙ ap (λ (l : List Commands). record { loaded = record { answer = Accepted; table = record { count = n; services = vs }; commands = l }; buffer = sets buffer 0 (bytesFrom text ds 0 n) }) p)
+
+    pub stored-small : length buffer < room → {r : Loaded} → r ≡ record { answer = Refused 25 0 0; table = noServices; commands = noCommands }
+        → record { loaded = r; buffer = buffer } ≡ stored text buffer n ds vs
+    unfolding stored
+    stored-small h q = test-not buffer 25 0 _ (lt-leb (length (bytesFrom text ds 0 n)) (length buffer) (rw (← e) h)) q
+
+  -- ---- 16
+
+  module _ (h : n ≤ maxServices) {low : ℕ} (e : low ≡ pick (leb n maxServices) (lowestCyclic vs n) n) where
+    low-as : low ≡ lowestCyclic vs n
+    low-as = e ∙ rw (le-leb n 32 h)
+
+    pub acyclic-on : n ≤ low → {o : Outcome} → o ≡ stored text buffer n ds vs → o ≡ acyclic text buffer n ds vs
+    unfolding acyclic
+    acyclic-on l q = test-on buffer 16 (lowestCyclic vs n) (le-leb n (lowestCyclic vs n) (rw (← low-as) l)) q
+
+    pub acyclic-not : low < n → {r : Loaded} → r ≡ record { answer = Refused 16 low 0; table = noServices; commands = noCommands }
+        → record { loaded = r; buffer = buffer } ≡ acyclic text buffer n ds vs
+    unfolding acyclic
+    acyclic-not l q =
+        test-not buffer 16 (lowestCyclic vs n) _ (lt-leb n (lowestCyclic vs n) (rw (← low-as) l))
+        (q ∙ ap (λ (k : ℕ). record { answer = Refused 16 k 0; table = noServices; commands = noCommands }) low-as)
+
+-- ---- the dependencies, and the texts
+
+module _ (name text : ℕ → List ℕ) (buffer : List ℕ) (n : ℕ) where
+  module _ (ds : List Description) (h : n ≤ maxServices) {m : Services} (e : m ≡ servicesIn name text ds n) where
+    made-as : m ≡ servicesFrom name text ds n (replicate maxServices defaultSettings) 0 n
+    unfolding servicesIn
+    made-as = e ∙ ap (λ (b : Bool). pick b (servicesFrom name text ds n (replicate maxServices defaultSettings) 0 n) noneMade) (le-leb n 32 h)
+
+    abbrev made : Outcome
+    made = withServices text buffer n ds (servicesFrom name text ds n (replicate maxServices defaultSettings) 0 n)
+
+    made-way : withServices text buffer n ds m ≡ made
+    made-way = ap (λ (r : Services). withServices text buffer n ds r) made-as
+
+    pub linked-on : m .answer ≡ Accepted → {o : Outcome} → o ≡ acyclic text buffer n ds (m .services) → o ≡ made
+    linked-on a q = pass-on buffer a q ∙ made-way
+
+    pub linked-not : {k s l : ℕ} → m .answer ≡ Refused k s l → {r : Loaded} → r ≡ record { answer = m .answer; table = noServices; commands = noCommands }
+        → record { loaded = r; buffer = buffer } ≡ made
+    linked-not a q = pass-not buffer _ a q ∙ made-way
+
+  module _ {d : Descriptions} (e : d ≡ descriptionsFrom text noDescriptions 0 n) where
+    abbrev told : Outcome
+    told = withDescriptions name text buffer n (descriptionsFrom text noDescriptions 0 n)
+
+    told-way : withDescriptions name text buffer n d ≡ told
+    told-way = ap (λ (r : Descriptions). withDescriptions name text buffer n r) e
+
+    pub read-on : d .answer ≡ Accepted → {o : Outcome}
+        → o ≡ withServices text buffer n (d .descriptions) (servicesFrom name text (d .descriptions) n (replicate maxServices defaultSettings) 0 n)
+        → o ≡ told
+    read-on a q = pass-on buffer a q ∙ told-way
+
+    pub read-not : {k s l : ℕ} → d .answer ≡ Refused k s l → {r : Loaded} → r ≡ record { answer = d .answer; table = noServices; commands = noCommands }
+        → record { loaded = r; buffer = buffer } ≡ told
+    read-not a q = pass-not buffer _ a q ∙ told-way
+
+  -- ---- the names and the sizes
+
+  abbrev texts : Outcome
+  texts = withDescriptions name text buffer n (descriptionsFrom text noDescriptions 0 n)
+
+  abbrev sizes : Outcome
+  sizes = passed buffer (sizesFrom text 0 0 n) texts
+
+  module _ {a : Answer} (e : a ≡ namesFrom name 0 n) where
+    pub names-not : {k s l : ℕ} → a ≡ Refused k s l → {r : Loaded} → r ≡ record { answer = a; table = noServices; commands = noCommands }
+        → record { loaded = r; buffer = buffer } ≡ loadSet name text n buffer
+    unfolding loadSet
+    names-not g q = pass-not buffer sizes g q ∙ ap (λ (b : Answer). passed buffer b sizes) e
+
+    module _ (g : a ≡ Accepted) {z : Answer} (f : z ≡ sizesFrom text 0 0 n) where
+      pub sizes-not : {k s l : ℕ} → z ≡ Refused k s l → {r : Loaded} → r ≡ record { answer = z; table = noServices; commands = noCommands }
+          → record { loaded = r; buffer = buffer } ≡ loadSet name text n buffer
+      unfolding loadSet
+      sizes-not k q = pass-on buffer (sym e ∙ g) (pass-not buffer texts k q ∙ ap (λ (b : Answer). passed buffer b texts) f)
+
+      pub set-on : z ≡ Accepted → {o : Outcome} → o ≡ withDescriptions name text buffer n (descriptionsFrom text noDescriptions 0 n)
+          → o ≡ loadSet name text n buffer
+      unfolding loadSet
+      set-on k q = pass-on buffer (sym e ∙ g) (pass-on buffer (sym f ∙ k) q)
+
+-- ---- 1 and 2
+
+module _ (lent ends buffer : List ℕ) where
+  pub load-many : maxServices < serviceCount ends → {r : Loaded} → r ≡ record { answer = Refused 1 0 0; table = noServices; commands = noCommands }
+      → record { loaded = r; buffer = buffer } ≡ load lent ends buffer
+  unfolding load
+  load-many h q = test-not buffer 1 0 _ (lt-leb (serviceCount ends) 32 h) q
+
+  module _ (h : serviceCount ends ≤ maxServices) {p : Bool} (e : p ≡ positioned lent ends) where
+    pub load-placed : p ≡ false → {r : Loaded} → r ≡ record { answer = Refused 2 0 0; table = noServices; commands = noCommands }
+        → record { loaded = r; buffer = buffer } ≡ load lent ends buffer
+    unfolding load
+    load-placed g q = test-on buffer 1 0 (le-leb (serviceCount ends) 32 h) (test-not buffer 2 0 _ (sym e ∙ g) q)
+
+    pub load-on : p ≡ true → {o : Outcome} → o ≡ loadSet (nameAt lent ends) (textAt lent ends) (serviceCount ends) buffer → o ≡ load lent ends buffer
+    unfolding load
+    load-on g q = test-on buffer 1 0 (le-leb (serviceCount ends) 32 h) (test-on buffer 2 0 (sym e ∙ g) q)

@@ -1,0 +1,56 @@
+-- `read_into` meets its contract.
+use Prim.Native.Nat.{_+_, _-_, _≤_}
+use native.Mathlib.Omega.{arith}
+use mathlib.Core.Path.{_≡_, refl, sym, _∙_}
+use Rattle.lent.specs.Parts.{textAt}
+use Rattle.loader.specs.Texts.{descriptionsFrom}
+use Rattle.loader.proofs.Laws.{texts-end, texts-read, texts-bad}
+use borrow.Author.Needs.{needs}
+use Rattle.loader.proofs.read_into.Statement.{statement}
+use Rattle.loader.proofs.read_into.Tie as tie
+
+abbrev Inv-loop : tie.InvT-loop
+Inv-loop lent ends n ds₀ j₀ ds j =
+    (j ≤ n) × (descriptionsFrom (textAt lent ends) ds₀ 0 n ≡ descriptionsFrom (textAt lent ends) ds j (n - j))
+
+abbrev μ-loop : tie.MeasureT-loop
+μ-loop lent ends n ds₀ j₀ ds j = n - j
+
+loop-holds : tie.Need-loop-holds Inv-loop μ-loop
+loop-holds c = (search needs, let e : c .before .before .args .n - 0 ≡ c .before .before .args .n = omega arith in rw e)
+
+returns : tie.Need-returns Inv-loop μ-loop
+returns c =
+    sym
+    (c .before .before .before .before .before .before .loop .inv .1
+    ∙ texts-bad _ _ _ _ (c .before .before .before .before .before .loop-test .taken) (c .before .before .before .before .text-at .ensures) (c .before .before .before .read-text .ensures) (c .before .enum-told2 .given .1) _ (c .refuse-text .ensures))
+
+loop-again : tie.Need-loop-again Inv-loop μ-loop
+loop-again c = (
+  search needs,
+  c .before .before .before .before .before .before .loop .inv .1
+  ∙ texts-read _ _ _ _ (c .before .before .before .before .before .loop-test .taken) (c .before .before .before .before .text-at .ensures) (c .before .before .before .read-text .ensures) (c .before .enum-told .given .1) refl,
+)
+
+returns-2 : tie.Need-returns-2 Inv-loop μ-loop
+returns-2 c = sym (c .before .loop .inv .1 ∙ texts-end _ _ _ _ (omega (arith, c .loop-test .left)))
+
+pub read-into-spec : {M : Type 1} → statement M
+read-into-spec =
+    tie.close
+    (tie.spec
+    Inv-loop
+    μ-loop
+    loop-holds
+    (λ c. search needs)
+    (λ c κs. search needs)
+    (λ c κs. search needs)
+    (λ c. search needs)
+    (λ c. search needs)
+    (λ c κs. search needs)
+    returns
+    (λ c. search needs)
+    (λ c. search needs)
+    (λ c. search needs)
+    loop-again
+    returns-2)

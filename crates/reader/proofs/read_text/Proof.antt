@@ -1,0 +1,31 @@
+-- `read_text` meets its contract.
+use mathlib.Core.Path.{sym, ap, _∙_}
+use Rattle.description.specs.Texts.{textRead}
+use borrow.Author.Needs.{needs}
+use Rattle.reader.proofs.read_text.Statement.{statement}
+use Rattle.reader.proofs.read_text.Tie as tie
+use Rattle.reader.proofs.read_text.Reads as reads
+use Rattle.reader.proofs.read_text.Lts as lts
+use Rattle.description.proofs.Description.blank.Reads as blank-reads
+use Rattle.reader.proofs.read_lines.Reads as read-lines-reads
+use Rattle.text.proofs.first_bad.Reads as first-bad-reads
+
+returns : tie.Need-returns
+unfolding textRead
+returns c = rw (sym (c .before .before .before .first-bad .ensures) ∙ c .before .enum-told2 .given .1, c .before .enum-told2 .given .1, c .blank .ensures)
+
+returns-2 : tie.Need-returns-2
+unfolding textRead
+returns-2 c = c .read-lines .ensures ∙ rw (sym (c .before .before .before .first-bad .ensures) ∙ c .before .enum-told .given .1)
+
+pub read-text-spec : {M : Type 1} → statement M
+read-text-spec =
+    tie.close
+    (tie.spec
+    (λ c κs. search needs)
+    (λ c. search needs)
+    (λ c. search needs)
+    (λ c κs. search needs)
+    returns
+    (λ c κs. search needs)
+    returns-2)

@@ -1,0 +1,57 @@
+// The tokens of one command: how many they are, how much room they take in the lent buffer, and writing them there.
+use description::Description;
+use description::value_at;
+use value::Scan;
+use value::scan_value;
+use value::write_value;
+ghost use mathlib.Core.Path.{_≡_};
+ghost use lib.ListN.{length};
+ghost use lib.Seq.{sets};
+ghost use Rattle.storing.specs.Tokens.{commandBytes, commandCount};
+
+// Where the tokens of a command begin in the lent buffer, and how many they are.
+pub struct Tokens {
+    pub at: usize,
+    pub count: usize,
+}
+
+pub struct Commands {
+    pub start: Tokens,
+    pub stop: Tokens,
+}
+
+// How many tokens the command has whose value begins at an offset of a text. At 0 there is no command.
+pub fn command_count(text: &[u8], at: usize) -> usize
+    ensures { λ r. ⌜ r ≡ commandCount (now (text .entry)) at ⌝ }
+{
+    if at == 0 {
+        return 0;
+    }
+    match scan_value(value_at(text, at)) {
+        Scan::Tokens(z) => z.tokens,
+        Scan::Bad(_) => 0,
+    }
+}
+
+// The room that its tokens take. Nothing is kept of what is written to find it.
+pub fn command_room(text: &[u8], at: usize) -> usize
+    ensures { λ r. ⌜ r ≡ length (commandBytes (now (text .entry)) at) ⌝ }
+{
+    if at == 0 {
+        return 0;
+    }
+    let mut least = [0u8; 1];
+    write_value(value_at(text, at), &mut least)
+}
+
+// Writes its tokens from the place o of the buffer on. What does not fit is dropped.
+pub fn write_command(text: &[u8], at: usize, buffer: &mut [u8], o: usize)
+    ensures { λ _. ⌜ now (buffer .exit) ≡ sets (now (buffer .entry)) o (commandBytes (now (text .entry)) at) ⌝ }
+{
+    if at == 0 {
+        return;
+    }
+    if o <= buffer.len() {
+        write_value(value_at(text, at), &mut buffer[o..]);
+    }
+}

@@ -1,0 +1,35 @@
+-- `tail` meets its contract: past the end nothing is left.
+use native.Mathlib.Omega.{arith}
+use mathlib.Core.Path.{_≡_, sym, ap, _∙_}
+use mathlib.Core.List.{List}
+use Prim.Native.Nat.{ℕ, _-_, _≤_}
+use lib.ListN.{length, take, drop, length-drop, drop-of-length-le}
+use lib.Seq.{take-all}
+use denote.Ref.{now}
+use borrow.Author.Needs.{needs}
+use Rattle.text.proofs.tail.Statement.{statement}
+use Rattle.text.proofs.tail.Tie as tie
+use Rattle.text.proofs.tail.Reads as reads
+use Rattle.text.proofs.tail.Lts as lts
+
+returns : tie.Need-returns
+returns c =
+    let l = now (c .before .before .args .l) in
+    let h : length (drop (c .before .before .args .a) l) ≤ length l - c .before .before .args .a = omega (arith, length-drop (c .before .before .args .a) l) in
+    take-all (length l - c .before .before .args .a) (drop (c .before .before .args .a) l) h
+
+returns-2 : tie.Need-returns-2
+returns-2 c =
+    let h : length (now (c .before .before .args .l)) ≤ c .before .before .args .a = omega arith in
+    sym (drop-of-length-le (now (c .before .before .args .l)) h)
+
+pub tail-spec : {M : Type 1} → statement M
+tail-spec =
+    tie.close
+    (tie.spec
+    (λ c. search needs)
+    (λ c. search needs)
+    (λ c. search needs)
+    (λ c. search needs)
+    returns
+    returns-2)
