@@ -17,8 +17,8 @@ use Rattle.word.proofs.property.Reads as property-reads
 read-property-requires : tie.Need-read-property-requires
 read-property-requires c κs = (c .before .before .before .before .before .before .before .pre .0, subst (Inside (length (now (c .before .before .before .before .before .before .before .args .line)))) (c .before .before .before .o .given .1) (c .before .before .before .before .before .before .before .pre .1))
 
-add-t14 : tie.Need-add-t14
-add-t14 c =
+add-at : tie.Need-add-at
+add-at c =
     let f = subst (Inside (length (now (c .before .before .before .before .before .before .args .line)))) (c .before .before .o2 .given .1) (c .before .before .before .before .before .before .pre .1) in
     let b = c .before .before .before .before .before .before .pre .0 in
     omega (arith, f, b)
@@ -42,7 +42,7 @@ read-line-spec =
     (λ c κs. search needs)
     read-property-requires
     (λ c. search needs)
-    add-t14
+    add-at
     returns
     returns-2
     returns-3)
