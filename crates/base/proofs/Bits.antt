@@ -1,15 +1,16 @@
 -- A bit of a union, of an intersection, of the empty set, of a power of two and of a set that ends before it.
-use Prim.Native.Nat.{ℕ, zero, suc, _+_, _-_, _*_, _<_, _≤_, _/_, _%_, _^_}
-use native.Mathlib.Nat.{not-suc-le-zero, le-of-suc-le-suc, zero-div, div-eq-of-lt, lt-div-mul-add, lt-of-lt-of-le, one-mul}
-use native.Mathlib.Omega.{arith}
-use mathlib.Core.Path.{_≡_, refl, sym, ap, _∙_}
-use mathlib.Core.Bool.{Bool, true, false, _||_, _&&_}
+use Prim.Native.Nat.{_%_, _*_, _+_, _-_, _/_, _<_, _^_, suc, zero, ℕ}
+use borrow.Author.Tests.{eq-eqb, eqb-true, ltb-false, ltb-true}
+use lib.Bits.{and-mod, and-shr, bitAnd, bitOr, or-lt, or-mod, or-shr, shifted-even}
 use lib.Dec.{eqb, ltb}
-use lib.Pow.{pow-add, pow-mono, pow-pos, shl-shr}
-use lib.Bits.{bitAnd, bitOr, and-shr, and-mod, or-shr, or-mod, shifted-even}
-use borrow.Author.Tests.{eqb-true, ltb-true, ltb-false}
+use lib.Pow.{pow-add, pow-lt, pow-mono, pow-pos, shl-shr}
+use mathlib.Core.Bool.{_&&_, _||_, false, true}
+use mathlib.Core.Logic.{_↔_}
+use mathlib.Core.Path.{_∙_, _≡_, ap, refl, sym}
+use native.Mathlib.Nat.{div-eq-of-lt, le-of-suc-le-suc, lt-div-mul-add, lt-of-lt-of-le, not-suc-le-zero, one-mul, zero-div}
+use native.Mathlib.Omega.{arith}
 use Rattle.base.specs.Sets.{hasBit, within}
-use Rattle.base.proofs.Tests.{either, or-not, not-both}
+use Rattle.base.proofs.Tests.{either, not-both, or-not}
 
 or-digits : (p q : ℕ) → p < 2 → q < 2 → eqb (bitOr p q) 1 ≡ (eqb p 1 || eqb q 1)
 or-digits zero q h k = refl
@@ -64,18 +65,32 @@ power-over i j l =
     let e : i ≡ suc (i - suc j) + j = omega arith in
     ap (λ a. hasBit (2 ^ a) j) e ∙ power-above (i - suc j) j
 
+-- a set ends before n where it is below 2 ^ n
+pub within-lt : (n m : ℕ) → (within n m ≡ true) ↔ (m < 2 ^ n)
+unfolding within
+within-lt n m = (
+  λ w.
+      let e : m / 2 ^ n ≡ 0 = eqb-true (m / 2 ^ n) 0 w in
+      let l : m < m / 2 ^ n * 2 ^ n + 2 ^ n = lt-div-mul-add (pow-pos n) in
+      let k : m < 0 * 2 ^ n + 2 ^ n = rw e at l in
+      omega (arith, k),
+  λ h. eq-eqb (m / 2 ^ n) 0 (div-eq-of-lt h),
+)
+
 -- what is in a set that ends before n is below n
 pub within-bit : (n m j : ℕ) → within n m ≡ true → hasBit m j ≡ true → j < n
-unfolding within
 within-bit n m j w h =
     either
     (or-not (ltb j n))
     (λ l. ltb-true j n l)
-    (λ l. absurd (not-both h (hasBit-small m j (lt-of-lt-of-le small (pow-mono (ltb-false j n l))))))
-  where
-    small : m < 2 ^ n
-    small =
-        let e : m / 2 ^ n ≡ 0 = eqb-true (m / 2 ^ n) 0 w in
-        let l : m < m / 2 ^ n * 2 ^ n + 2 ^ n = lt-div-mul-add (pow-pos n) in
-        let k : m < 0 * 2 ^ n + 2 ^ n = rw e at l in
-        omega (arith, k)
+    (λ l. absurd (not-both h (hasBit-small m j (lt-of-lt-of-le (within-lt n m .0 w) (pow-mono (ltb-false j n l))))))
+
+-- the union of two sets, and a number more, end where they do
+pub within-or : (n a b : ℕ) → within n a ≡ true → within n b ≡ true → within n (bitOr a b) ≡ true
+within-or n a b v w = within-lt n (bitOr a b) .1 (or-lt n a b (within-lt n a .0 v) (within-lt n b .0 w))
+
+pub within-power : (n i : ℕ) → i < n → within n (2 ^ i) ≡ true
+within-power n i l = within-lt n (2 ^ i) .1 (pow-lt l)
+
+pub within-none : (n : ℕ) → within n 0 ≡ true
+within-none n = within-lt n 0 .1 (pow-pos n)

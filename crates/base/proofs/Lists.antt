@@ -1,7 +1,8 @@
 -- Lists that are given by a function of the place.
 use Prim.Native.Nat.{_<_, suc, zero, ℕ}
-use mathlib.Core.List.{List, _∷_}
-use mathlib.Core.Path.{_≡_, ap₂, refl}
+use lib.ListN.{getD, replicate, set}
+use mathlib.Core.List.{List, [], _∷_}
+use mathlib.Core.Path.{_≡_, ap, ap₂, refl}
 use native.Mathlib.Omega.{arith}
 use Rattle.base.specs.Folds.{listed}
 
@@ -10,3 +11,17 @@ unfolding listed
 listed-as f g zero h = refl
 listed-as {A} f g (suc n) h =
     ap₂ (λ (a : A) (l : List A). a ∷ l) (h 0 (omega arith)) (listed-as (λ i. f (suc i)) (λ i. g (suc i)) n (λ i l. h (suc i) (omega arith)))
+
+-- what holds of the value stored, and held before elsewhere, holds at each place
+pub set-holds : {A : Type 0} (P : A → Type 0) (l : List A) (s i : ℕ) (a d : A) → (i ≡ s → P a) → P (getD l i d) → P (getD (set l s a) i d)
+set-holds P [] s i a d f h = h
+set-holds P (b ∷ l) zero zero a d f h = f refl
+set-holds P (b ∷ l) zero (suc i) a d f h = h
+set-holds P (b ∷ l) (suc s) zero a d f h = h
+set-holds P (b ∷ l) (suc s) (suc i) a d f h = set-holds P l s i a d (λ e. f (ap suc e)) h
+
+-- and of a list of copies
+pub copies-hold : {A : Type 0} (P : A → Type 0) (n i : ℕ) (a d : A) → P a → P d → P (getD (replicate n a) i d)
+copies-hold P zero i a d h k = k
+copies-hold P (suc n) zero a d h k = h
+copies-hold P (suc n) (suc i) a d h k = copies-hold P n i a d h k

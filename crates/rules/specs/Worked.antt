@@ -1,25 +1,18 @@
--- "Reader and averager, on both sides": the worked examples of paper 01 that it marks P, one table and one statement.
+-- "Reader and averager, on both sides": the pair, with the calls and answers that paper 01 marks P. The statement over all that is so
+-- marked, times and values too, stands in the crate `guarantee`.
 use Prim.Native.Nat.{ℕ}
 use lib.ListN.{replicate}
 use mathlib.Core.Bool.{false, true}
 use mathlib.Core.List.{List, [], _∷_}
-use mathlib.Core.Path.{_≡_, refl}
-use Rattle.base.specs.Folds.{every, first, some}
-use Rattle.base.specs.Links.{cyclic, reach}
-use Rattle.base.specs.Sets.{hasBit, within}
-use Rattle.service.specs.Records.{freshState, recordAt, withRecord}
-use Rattle.service.specs.Settings.{defaultSettings, settingsAt}
+use Rattle.service.specs.Settings.{defaultSettings}
 use Rattle.service.specs.declared.Action.the-variants.{Launch, Moved, Quiet, Signal}
 use Rattle.service.specs.declared.Kind.the-variants.{Process}
 use Rattle.service.specs.declared.Settings.{Settings}
 use Rattle.service.specs.declared.Signal.the-variants.{Term}
 use Rattle.service.specs.declared.State.{State}
 use Rattle.service.specs.declared.Table.{Table}
-use Rattle.rules.specs.Calls.{Answer, Call, acted, check, clock, done, end, next, outcome, start}
-use Rattle.rules.specs.Dependencies.{allLinks, blocked, depends, hard, hardLinks, needed, soft, strong, strongLinks}
-use Rattle.rules.specs.Events.{afterClock, afterEnd, afterStart, afterStop, afterStopAll, each, endedAs, startReaches}
-use Rattle.rules.specs.Rules.{act, actOn, chosen, chosenFrom, due, fits, hands, leaves, lostToUser, nextAction}
-use Rattle.rules.specs.WellFormed.{formed, shapedAt, stateFormed, tableFormed}
+use Rattle.rules.specs.Calls.{Answer, Call, acted, clock, done, end, next, outcome, start}
+use Rattle.rules.specs.Dependencies.{hard, soft}
 
 -- the answers to a list of calls
 unfoldable pub answers : Table → State → List Call → List Answer
@@ -47,29 +40,16 @@ process h = record {
 abbrev pub pair : Table
 pair = record { count = 2; services = process 0 ∷ process 1 ∷ replicate 30 defaultSettings }
 
--- a worked example: calls from the fresh state of a table, and their answers
-pub data Case : Type 0 where
-  played : Table → List Call → List Answer → Case
+-- "Start 1: moved 1, moved 0, launch 0, launch 1, quiet. Clock 50,000, end of 0: moved 1, TERM 1, quiet. End of 1: moved 0,
+-- moved 1, moved 0, launch 0, launch 1, quiet."
+unfoldable pub pairCalls : List Call
+pairCalls =
+    start 1 ∷ next ∷ next ∷ next ∷ next ∷ next
+    ∷ clock 50000 ∷ end 0 false ∷ next ∷ next ∷ next
+    ∷ end 1 true ∷ next ∷ next ∷ next ∷ next ∷ next ∷ next ∷ []
 
-abbrev pub Passes : Case → Type 0
-Passes (played t cs as′) = answers t freshState cs ≡ as′
-
-abbrev pub AllPass : List Case → Type 0
-AllPass [] = Unit {0}
-AllPass (c ∷ cs) = Passes c × AllPass cs
-
--- THE TABLE. "Start 1: moved 1, moved 0, launch 0, launch 1, quiet. Clock 50,000, end of 0: moved 1, TERM 1, quiet. End of 1:
--- moved 0, moved 1, moved 0, launch 0, launch 1, quiet."
-abbrev pub cases : List Case
-cases =
-    played pair
-    (start 1 ∷ next ∷ next ∷ next ∷ next ∷ next ∷ clock 50000 ∷ end 0 false ∷ next ∷ next ∷ next ∷ end 1 true ∷ next ∷ next ∷ next ∷ next ∷ next ∷ next ∷ [])
-    (done ∷ acted (Moved 1) ∷ acted (Moved 0) ∷ acted (Launch 0) ∷ acted (Launch 1) ∷ acted Quiet
+unfoldable pub pairAnswers : List Answer
+pairAnswers =
+    done ∷ acted (Moved 1) ∷ acted (Moved 0) ∷ acted (Launch 0) ∷ acted (Launch 1) ∷ acted Quiet
     ∷ done ∷ done ∷ acted (Moved 1) ∷ acted (Signal 1 Term) ∷ acted Quiet
-    ∷ done ∷ acted (Moved 0) ∷ acted (Moved 1) ∷ acted (Moved 0) ∷ acted (Launch 0) ∷ acted (Launch 1) ∷ acted Quiet ∷ [])
-    ∷ []
-
--- THE STATEMENT
-pub worked : AllPass cases
-unfolding answers some every first hasBit within reach cyclic settingsAt recordAt withRecord freshState hardLinks strongLinks allLinks hard strong soft depends blocked needed tableFormed shapedAt stateFormed formed each startReaches afterStart afterStop afterStopAll endedAs afterEnd afterClock due fits lostToUser leaves hands chosenFrom chosen act actOn nextAction check outcome
-worked = (refl, tt)
+    ∷ done ∷ acted (Moved 0) ∷ acted (Moved 1) ∷ acted (Moved 0) ∷ acted (Launch 0) ∷ acted (Launch 1) ∷ acted Quiet ∷ []

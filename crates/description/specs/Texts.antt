@@ -1,0 +1,46 @@
+-- "each text in turn: 6 over the whole text, its lines, 13, 14"
+use Prim.Native.Nat.{ℕ, _+_}
+use mathlib.Core.Bool.{Bool, true, false, _||_, _&&_}
+use mathlib.Core.List.{List, [], _∷_}
+use lib.Dec.{eqb}
+use lib.ListN.{length}
+use Rattle.base.specs.Folds.{pick}
+use Rattle.text.specs.Lines.{fault, linesOf, badFrom}
+use Rattle.text.specs.declared.Fault.{Fault}
+use Rattle.text.specs.declared.Verdict.{Verdict}
+use Rattle.text.specs.declared.Verdict.the-variants.{Good, Bad}
+use Rattle.description.specs.declared.Description.{Description}
+use Rattle.description.specs.declared.Line.{Line}
+use Rattle.description.specs.declared.Line.the-variants.{Good as GoodLine, Bad as BadLine}
+use Rattle.description.specs.declared.Read.{Read}
+use Rattle.description.specs.Settings.{blank, affected, valueOf}
+use Rattle.description.specs.Lines.{lineRead}
+
+-- the settings so far, with a verdict
+abbrev pub readAs : Verdict → Description → Read
+readAs v d = record { answer = v; description = d }
+
+-- "a refusal met inside a line ends the whole load at once"
+abbrev pub readOn : Line → Description → (Description → Read) → Read
+readOn (GoodLine e) d on = on (affected d e)
+readOn (BadLine f) d on = readAs (Bad f) d
+
+-- 13 / 14: "no type / process or scripted without command"; they have no byte that decides
+unfoldable pub completion : Description → Verdict
+completion d =
+    pick (eqb (valueOf d 0) 0) (Bad (fault 13 0))
+    (pick ((eqb (valueOf d 0) 1 || eqb (valueOf d 0) 2) && eqb (valueOf d 1) 0) (Bad (fault 14 0)) Good)
+
+-- the lines that are left, of which the first begins at the offset `from`
+unfoldable pub linesRead : List ℕ → Description → ℕ → List (List ℕ) → Read
+linesRead text d from [] = readAs (completion d) d
+linesRead text d from (l ∷ ls) =
+    readOn (lineRead text d from l) d (λ d′. linesRead text d′ (from + length l + 1) ls)
+
+abbrev pub cleanRead : Verdict → Description → Read → Read
+cleanRead Good d on = on
+cleanRead (Bad f) d on = readAs (Bad f) d
+
+-- the settings of a description, or its first fault by number and offset
+unfoldable pub textRead : List ℕ → Read
+textRead text = cleanRead (badFrom 0 text) blank (linesRead text blank 0 (linesOf text))

@@ -1,0 +1,200 @@
+-- What a load gives passes list 24's part on tables: the count, the dependencies, the ranges, and no cycle.
+use Prim.Native.Nat.{_+_, _<_, _^_, _≤_, suc, zero, ℕ}
+use borrow.Author.Tests.{leb-true, ltb-true}
+use lib.Bits.{bitOr}
+use lib.Dec.{eqb, leb, ltb}
+use lib.ListN.{getD, length, replicate, set}
+use mathlib.Core.Bool.{Bool, false, true}
+use mathlib.Core.List.{List}
+use mathlib.Core.Path.{_≡_, refl}
+use native.Mathlib.Omega.{arith}
+use Rattle.base.specs.Folds.{every, first, pick, some}
+use Rattle.base.specs.Links.{cyclic, reach}
+use Rattle.base.specs.Sets.{hasBit, within}
+use Rattle.base.proofs.Below.{Sought, found, nowhere, some-false, sought}
+use Rattle.base.proofs.Bits.{within-none, within-or, within-power}
+use Rattle.base.proofs.Lists.{copies-hold, set-holds}
+use Rattle.base.proofs.Tests.{tests}
+use Rattle.service.specs.Limits.{maxServices}
+use Rattle.service.specs.Settings.{defaultSettings, noServices, noSettings, settingsAt}
+use Rattle.service.specs.declared.Settings.{Settings}
+use Rattle.rules.specs.Dependencies.{allLinks}
+use Rattle.rules.specs.WellFormed.{linksInside, settingsInRange, tableFormed}
+use Rattle.rules.proofs.Links.{table-sound}
+use Rattle.text.specs.Lines.{fault}
+use Rattle.text.specs.declared.Verdict.{Verdict}
+use Rattle.text.specs.declared.Verdict.the-variants.{Bad as Bad, Good as Good}
+use Rattle.description.specs.Settings.{blank, dependencyAt, wordAt}
+use Rattle.description.specs.Texts.{textRead}
+use Rattle.description.specs.declared.Description.{Description}
+use Rattle.lent.specs.Checks.{find, namesFrom, sizesFrom}
+use Rattle.loader.specs.Links.{descriptionAt, linksAt, linksFrom, lowestCyclic, noLinks, servicesFrom, servicesOn, settingsOf, withLink}
+use Rattle.loader.specs.Load.{Outcome as LoadOutcome, acyclic, load, loadSet, passed, stored, tested}
+use Rattle.lent.specs.Parts.{nameAt, positioned, serviceCount, textAt}
+use Rattle.loader.specs.Texts.{descriptionsFrom, descriptionsOn, noDescriptions}
+use Rattle.loader.specs.Tokens.{bytesFrom}
+use Rattle.lent.specs.declared.Answer.{Answer as LoadAnswer}
+use Rattle.lent.specs.declared.Answer.the-variants.{Accepted, Refused as LoadRefused}
+use Rattle.loader.specs.declared.Linked.{Linked}
+use Rattle.loader.specs.declared.Links.{Links}
+use Rattle.guarantee.specs.Guarantee.{LoadsFormed}
+use Rattle.guarantee.proofs.Values.{InRange, blank-in, text-in}
+
+-- the settings of one service in a set of n
+pub record ServiceIn (n : ℕ) (v : Settings) : Type 0 where
+  pub inside : linksInside n v ≡ true
+  pub ranged : settingsInRange v ≡ true
+
+-- ---- the dependencies are services of the set
+
+record LinksIn (n : ℕ) (l : Links) : Type 0 where
+  hard : within n (l .hard) ≡ true
+  milestone : within n (l .milestone) ≡ true
+  soft : within n (l .soft) ≡ true
+
+link-more : (n : ℕ) (b : Bool) (m i : ℕ) → i < n → within n m ≡ true → within n (pick b (bitOr m (2 ^ i)) m) ≡ true
+link-more n true m i l h = within-or n m (2 ^ i) h (within-power n i l)
+link-more n false m i l h = h
+
+links-in : (name : ℕ → List ℕ) (n : ℕ) (text : List ℕ) (d : Description) (l : Links) (k m : ℕ) → LinksIn n l → LinksIn n (linksFrom name n text d l k m .links)
+unfolding linksFrom
+links-in name n text d l k zero h = h
+links-in name n text d l k (suc m) h =
+    go (ltb i n) refl (λ l′. links-in name n text d l′ (k + 1) m)
+  where
+    i : ℕ
+    i = find name n (wordAt text (dependencyAt d k .at))
+
+    go : (b : Bool) → ltb i n ≡ b → ((l′ : Links) → LinksIn n l′ → LinksIn n (linksFrom name n text d l′ (k + 1) m .links))
+        → LinksIn n (pick b (linksFrom name n text d (withLink l (dependencyAt d k .property) i) (k + 1) m) (record { answer = Bad (fault 15 (dependencyAt d k .at)); links = l }) .links)
+    go true e rest =
+        rest (withLink l (dependencyAt d k .property) i)
+        record {
+          hard = link-more n (eqb (dependencyAt d k .property) 10) (l .hard) i (ltb-true i n e) (h .hard);
+          milestone = link-more n (eqb (dependencyAt d k .property) 11) (l .milestone) i (ltb-true i n e) (h .milestone);
+          soft = link-more n (eqb (dependencyAt d k .property) 12) (l .soft) i (ltb-true i n e) (h .soft);
+        }
+    go false e rest = h
+
+no-links-in : (n : ℕ) → LinksIn n noLinks
+no-links-in n = record { hard = within-none n; milestone = within-none n; soft = within-none n }
+
+-- ---- the settings of a service
+
+service-in : (n : ℕ) (d : Description) (l : Links) → InRange d → LinksIn n l → ServiceIn n (settingsOf d l)
+service-in n d l h k = record {
+  inside = simp tests ((k .hard, k .milestone), k .soft);
+  ranged = simp tests ((((h .delay, h .interval), h .starting), h .stopping), h .limit);
+}
+
+default-in : (n : ℕ) → ServiceIn n defaultSettings
+default-in n = record { inside = simp tests ((within-none n, within-none n), within-none n); ranged = refl }
+
+no-settings-in : (n : ℕ) → ServiceIn n noSettings
+no-settings-in n = record { inside = simp tests ((within-none n, within-none n), within-none n); ranged = refl }
+
+-- ---- the passes
+
+-- every description of the set is in range
+abbrev AllIn : List Description → Type 0
+AllIn ds = (i : ℕ) → InRange (descriptionAt ds i)
+
+descriptions-in : (text : ℕ → List ℕ) (ds : List Description) (j m : ℕ) → AllIn ds → AllIn (descriptionsFrom text ds j m .descriptions)
+unfolding descriptionsFrom
+descriptions-in text ds j zero h = h
+descriptions-in text ds j (suc m) h =
+    go (textRead (text j) .answer) (descriptions-in text (set ds j (textRead (text j) .description)) (j + 1) m (λ i. set-holds InRange ds j i (textRead (text j) .description) blank (λ _. text-in (text j)) (h i)))
+  where
+    go : (v : Verdict) → AllIn (descriptionsFrom text (set ds j (textRead (text j) .description)) (j + 1) m .descriptions)
+        → AllIn (descriptionsOn (text j) j v ds (descriptionsFrom text (set ds j (textRead (text j) .description)) (j + 1) m) .descriptions)
+    go Good k = k
+    go (Bad f) k = h
+
+-- every service of the set is in range
+abbrev AllServices : ℕ → List Settings → Type 0
+AllServices n vs = (i : ℕ) → ServiceIn n (getD vs i noSettings)
+
+services-in : (name text : ℕ → List ℕ) (ds : List Description) (n : ℕ) (vs : List Settings) (j m : ℕ) → AllIn ds → AllServices n vs → AllServices n (servicesFrom name text ds n vs j m .services)
+unfolding servicesFrom
+services-in name text ds n vs j zero h k = k
+services-in name text ds n vs j (suc m) h k =
+    go (r .answer) (services-in name text ds n vs′ (j + 1) m h (λ i. set-holds (ServiceIn n) vs j i (settingsOf d (r .links)) noSettings (λ _. service-in n d (r .links) (h j) (links-in name n (text j) d noLinks 0 (d .count) (no-links-in n))) (k i)))
+  where
+    d : Description
+    d = descriptionAt ds j
+
+    r : Linked
+    r = linksFrom name n (text j) d noLinks 0 (d .count)
+
+    vs′ : List Settings
+    vs′ = set vs j (settingsOf d (r .links))
+
+    go : (v : Verdict) → AllServices n (servicesFrom name text ds n vs′ (j + 1) m .services) → AllServices n (servicesOn (text j) j v vs (servicesFrom name text ds n vs′ (j + 1) m) .services)
+    go Good q = q
+    go (Bad f) q = k
+
+-- 16 was not due: no service reaches itself
+no-cycle-found : (p : ℕ → Bool) (n : ℕ) → leb n (first p n) ≡ true → some p n ≡ false
+no-cycle-found p n e = go (sought p n) (leb-true _ _ e)
+  where
+    go : {i : ℕ} → Sought p n i → n ≤ i → some p n ≡ false
+    go (found {i} h) l = let b = h .bound in absurd (omega arith)
+    go (nowhere h) l = some-false p n .1 h
+
+made-formed : (n : ℕ) (vs : List Settings) → n ≤ maxServices → AllServices n vs → leb n (lowestCyclic vs n) ≡ true → tableFormed (record { count = n; services = vs }) ≡ true
+unfolding lowestCyclic cyclic allLinks settingsAt
+made-formed n vs l h e =
+    table-sound (record { count = n; services = vs }) .1
+    record {
+      few = l;
+      inside = λ s _. h s .inside;
+      ranged = λ s _. h s .ranged;
+      acyclic = no-cycle-found (λ s. hasBit (reach (linksAt vs) n s) s) n e;
+    }
+
+-- the table of no services
+none-formed : tableFormed noServices ≡ true
+unfolding tableFormed every cyclic some
+none-formed = refl
+
+-- ---- the load
+
+abbrev Formed : LoadOutcome → Type 0
+Formed o = tableFormed (o .loaded .table) ≡ true
+
+after-pass : (buffer : List ℕ) (a : LoadAnswer) (o : LoadOutcome) → Formed o → Formed (passed buffer a o)
+after-pass buffer Accepted o h = h
+after-pass buffer (LoadRefused k s l) o h = none-formed
+
+after-test : (buffer : List ℕ) (b : Bool) (k s : ℕ) (o : LoadOutcome) → (b ≡ true → Formed o) → Formed (tested buffer b k s o)
+after-test buffer true k s o h = h refl
+after-test buffer false k s o h = none-formed
+
+set-formed : (name text : ℕ → List ℕ) (n : ℕ) (buffer : List ℕ) → n ≤ maxServices → Formed (loadSet name text n buffer)
+unfolding loadSet acyclic stored
+set-formed name text n buffer l =
+    after-pass buffer (namesFrom name 0 n) _
+    (after-pass buffer (sizesFrom text 0 0 n) _
+    (after-pass buffer (descriptionsFrom text noDescriptions 0 n .answer) _
+    (after-pass buffer (servicesFrom name text ds n (replicate maxServices defaultSettings) 0 n .answer) _
+    (after-test buffer (leb n (lowestCyclic vs n)) 16 (lowestCyclic vs n) _
+    (λ e. after-test buffer (leb (length (bytesFrom text ds 0 n)) (length buffer)) 25 0 _
+    (λ _. made-formed n vs l ok e))))))
+  where
+    ds : List Description
+    ds = descriptionsFrom text noDescriptions 0 n .descriptions
+
+    vs : List Settings
+    vs = servicesFrom name text ds n (replicate maxServices defaultSettings) 0 n .services
+
+    ok : AllServices n vs
+    ok =
+        services-in name text ds n (replicate maxServices defaultSettings) 0 n
+        (descriptions-in text noDescriptions 0 n (λ i. copies-hold InRange maxServices i blank blank blank-in blank-in))
+        (λ i. copies-hold (ServiceIn n) maxServices i defaultSettings noSettings (default-in n) (no-settings-in n))
+
+pub loads-formed : LoadsFormed
+unfolding load
+loads-formed lent ends tokens =
+    after-test tokens (leb (serviceCount ends) maxServices) 1 0 _
+    (λ e. after-test tokens (positioned lent ends) 2 0 _ (λ _. set-formed (nameAt lent ends) (textAt lent ends) (serviceCount ends) tokens (leb-true _ _ e)))

@@ -1,0 +1,93 @@
+-- The dependencies of a set as sets of services: 15 "a dependency on a service not in the set", "by service and line";
+-- 16 "the three kinds together have a cycle". With them the settings of each service.
+use Prim.Native.Nat.{ℕ, zero, suc, _+_, _^_}
+use mathlib.Core.Bool.{Bool, true, false, not}
+use mathlib.Core.List.{List}
+use lib.Dec.{eqb, ltb}
+use lib.Bits.{bitOr}
+use lib.ListN.{getD, set}
+use Rattle.base.specs.Folds.{pick, first}
+use Rattle.base.specs.Sets.{hasBit}
+use Rattle.base.specs.Links.{reach}
+use Rattle.service.specs.declared.Kind.{Kind}
+use Rattle.service.specs.declared.Kind.the-variants.{Process, Scripted, Internal}
+use Rattle.service.specs.declared.Settings.{Settings}
+use Rattle.service.specs.Settings.{noSettings}
+use Rattle.service.specs.Numbers.{signalAt}
+use Rattle.text.specs.Lines.{fault}
+use Rattle.text.specs.declared.Verdict.{Verdict}
+use Rattle.text.specs.declared.Verdict.the-variants.{Good, Bad}
+use Rattle.description.specs.declared.Description.{Description}
+use Rattle.description.specs.Settings.{blank, valueOf, dependencyAt, wordAt}
+use Rattle.lent.specs.declared.Answer.{Answer}
+use Rattle.lent.specs.declared.Answer.the-variants.{Accepted}
+use Rattle.loader.specs.declared.Links.{Links}
+use Rattle.loader.specs.declared.Linked.{Linked}
+use Rattle.loader.specs.declared.Services.{Services}
+use Rattle.lent.specs.Checks.{find}
+use Rattle.loader.specs.Texts.{refusedIn}
+
+abbrev pub noLinks : Links
+noLinks = record { hard = 0; milestone = 0; soft = 0 }
+
+-- a link to service i by property p: depends-on, depends-ms or waits-for
+abbrev pub withLink : Links → ℕ → ℕ → Links
+withLink l p i = record {
+  hard = pick (eqb p 10) (bitOr (l .hard) (2 ^ i)) (l .hard);
+  milestone = pick (eqb p 11) (bitOr (l .milestone) (2 ^ i)) (l .milestone);
+  soft = pick (eqb p 12) (bitOr (l .soft) (2 ^ i)) (l .soft);
+}
+
+-- the dependencies of a description from number k on, with m left
+unfoldable pub linksFrom : (ℕ → List ℕ) → ℕ → List ℕ → Description → Links → ℕ → ℕ → Linked
+linksFrom name n text d l k zero = record { answer = Good; links = l }
+linksFrom name n text d l k (suc m) =
+    let i = find name n (wordAt text (dependencyAt d k .at)) in
+    pick (ltb i n) (linksFrom name n text d (withLink l (dependencyAt d k .property) i) (k + 1) m)
+    (record { answer = Bad (fault 15 (dependencyAt d k .at)); links = l })
+
+abbrev pub kindAt : ℕ → Kind
+kindAt zero = Internal
+kindAt (suc zero) = Process
+kindAt (suc (suc zero)) = Scripted
+kindAt (suc (suc (suc k))) = Internal
+
+-- the settings of a service, by property number
+abbrev pub settingsOf : Description → Links → Settings
+settingsOf d l = record {
+  kind = kindAt (valueOf d 0);
+  restart = eqb (valueOf d 3) 1;
+  «has_stop» = not (eqb (valueOf d 2) 0);
+  signal = signalAt (valueOf d 13);
+  delay = valueOf d 5;
+  interval = valueOf d 6;
+  limit = valueOf d 7;
+  «start_timeout» = valueOf d 8;
+  «stop_timeout» = valueOf d 9;
+  hard = l .hard;
+  milestone = l .milestone;
+  soft = l .soft;
+}
+
+abbrev pub descriptionAt : List Description → ℕ → Description
+descriptionAt ds j = getD ds j blank
+
+abbrev pub servicesOn : List ℕ → ℕ → Verdict → List Settings → Services → Services
+servicesOn text j Good vs on = on
+servicesOn text j (Bad f) vs on = record { answer = refusedIn text j f; services = vs }
+
+-- from service j on with m left, in a set of n; vs holds those before it
+unfoldable pub servicesFrom : (ℕ → List ℕ) → (ℕ → List ℕ) → List Description → ℕ → List Settings → ℕ → ℕ → Services
+servicesFrom name text ds n vs j zero = record { answer = Accepted; services = vs }
+servicesFrom name text ds n vs j (suc m) =
+    let d = descriptionAt ds j in
+    let r = linksFrom name n (text j) d noLinks 0 (d .count) in
+    servicesOn (text j) j (r .answer) vs (servicesFrom name text ds n (set vs j (settingsOf d (r .links))) (j + 1) m)
+
+-- all that a service depends on, "the three kinds together"
+abbrev pub linksAt : List Settings → ℕ → ℕ
+linksAt vs s = bitOr (bitOr (getD vs s noSettings .hard) (getD vs s noSettings .milestone)) (getD vs s noSettings .soft)
+
+-- "the lowest service on any cycle", or n where there is none
+unfoldable pub lowestCyclic : List Settings → ℕ → ℕ
+lowestCyclic vs n = first (λ s. hasBit (reach (linksAt vs) n s) s) n

@@ -1,0 +1,31 @@
+-- The laws of the bytes of a name, as the loop goes through them, and the setting of a signal that was found or not.
+use mathlib.Core.Path.{_≡_, refl}
+use mathlib.Core.Bool.{Bool, true, false, _&&_}
+use mathlib.Core.List.{List}
+use Prim.Native.Nat.{ℕ, _+_, _≤_, _<_}
+use native.Mathlib.Numerals.{add-one}
+use lib.ListN.{length, getD, drop, drop-of-length-le}
+use lib.Seq.{drop-cons}
+use borrow.Author.Tests.{lt-ltb, le-ltb}
+use Rattle.text.specs.Strings.{indexFrom}
+use Rattle.text.specs.Bytes.{isNameByte}
+use Rattle.word.specs.Words.{nameBytes, signalNames, signalOf}
+use Rattle.word.specs.declared.Setting.the-variants.{Value, Bad}
+
+module _ (s : List ℕ) (k : ℕ) where
+  pub bytes-end : length s ≤ k → nameBytes (drop k s) ≡ true
+  unfolding nameBytes
+  bytes-end h = rw (drop-of-length-le s h)
+
+  pub bytes-next : {t : Bool} → k < length s → isNameByte (getD s k 0) ≡ t → nameBytes (drop k s) ≡ t && nameBytes (drop (k + 1) s)
+  unfolding nameBytes
+  bytes-next h e = rw (add-one k, drop-cons s k 0 h, e)
+
+-- a signal by the place that was found
+pub signal-found : (w : List ℕ) {k : ℕ} → indexFrom w 0 signalNames ≡ k → k < 8 → signalOf w ≡ Value k
+unfolding signalOf
+signal-found w {k} e h = rw (e, lt-ltb k 8 h)
+
+pub signal-none : (w : List ℕ) {k : ℕ} → indexFrom w 0 signalNames ≡ k → 8 ≤ k → signalOf w ≡ Bad
+unfolding signalOf
+signal-none w {k} e h = rw (e, le-ltb k 8 h)

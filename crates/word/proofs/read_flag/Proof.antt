@@ -1,0 +1,47 @@
+-- `read_flag` meets its contract, word by word.
+use mathlib.Core.Path.{sym, _∙_}
+use Rattle.word.specs.Words.{flagOf}
+use borrow.Author.Needs.{needs}
+use Rattle.word.proofs.read_flag.Statement.{statement}
+use Rattle.word.proofs.read_flag.Tie as tie
+use Rattle.word.proofs.read_flag.Reads as reads
+use Rattle.word.proofs.read_flag.Lts as lts
+use Rattle.text.proofs.same_bytes.Reads as same-bytes-reads
+
+returns : tie.Need-returns
+unfolding flagOf
+returns c = rw (sym (c .before .same-bytes .ensures) ∙ c .if1 .taken)
+
+returns-2 : tie.Need-returns-2
+unfolding flagOf
+returns-2 c = rw (sym (c .before .before .before .before .same-bytes .ensures) ∙ c .before .before .before .if1 .left, sym (c .before .same-bytes2 .ensures) ∙ c .if2 .taken)
+
+returns-3 : tie.Need-returns-3
+unfolding flagOf
+returns-3 c = rw (sym (c .before .before .before .before .before .before .before .same-bytes .ensures) ∙ c .before .before .before .before .before .before .if1 .left, sym (c .before .before .before .before .same-bytes2 .ensures) ∙ c .before .before .before .if2 .left, sym (c .before .same-bytes3 .ensures) ∙ c .if3 .taken)
+
+returns-4 : tie.Need-returns-4
+unfolding flagOf
+returns-4 c = rw (sym (c .before .before .before .before .before .before .before .before .before .before .same-bytes .ensures) ∙ c .before .before .before .before .before .before .before .before .before .if1 .left, sym (c .before .before .before .before .before .before .before .same-bytes2 .ensures) ∙ c .before .before .before .before .before .before .if2 .left, sym (c .before .before .before .before .same-bytes3 .ensures) ∙ c .before .before .before .if3 .left, sym (c .before .same-bytes4 .ensures) ∙ c .if4 .taken)
+
+returns-5 : tie.Need-returns-5
+unfolding flagOf
+returns-5 c = rw (sym (c .before .before .before .before .before .before .before .before .before .before .same-bytes .ensures) ∙ c .before .before .before .before .before .before .before .before .before .if1 .left, sym (c .before .before .before .before .before .before .before .same-bytes2 .ensures) ∙ c .before .before .before .before .before .before .if2 .left, sym (c .before .before .before .before .same-bytes3 .ensures) ∙ c .before .before .before .if3 .left, sym (c .before .same-bytes4 .ensures) ∙ c .if4 .left)
+
+pub read-flag-spec : {M : Type 1} → statement M
+read-flag-spec =
+    tie.close
+    (tie.spec
+    (λ c. search needs)
+    (λ c κs. search needs)
+    returns
+    (λ c. search needs)
+    (λ c κs. search needs)
+    returns-2
+    (λ c. search needs)
+    (λ c κs. search needs)
+    returns-3
+    (λ c. search needs)
+    (λ c κs. search needs)
+    returns-4
+    returns-5)

@@ -1,0 +1,33 @@
+-- `read_no` meets its contract, word by word.
+use mathlib.Core.Path.{sym, _∙_}
+use Rattle.word.specs.Words.{noOf}
+use borrow.Author.Needs.{needs}
+use Rattle.word.proofs.read_no.Statement.{statement}
+use Rattle.word.proofs.read_no.Tie as tie
+use Rattle.word.proofs.read_no.Reads as reads
+use Rattle.word.proofs.read_no.Lts as lts
+use Rattle.text.proofs.same_bytes.Reads as same-bytes-reads
+
+returns : tie.Need-returns
+unfolding noOf
+returns c = rw (sym (c .before .same-bytes .ensures) ∙ c .if1 .taken)
+
+returns-2 : tie.Need-returns-2
+unfolding noOf
+returns-2 c = rw (sym (c .before .before .before .before .same-bytes .ensures) ∙ c .before .before .before .if1 .left, sym (c .before .same-bytes2 .ensures) ∙ c .if2 .taken)
+
+returns-3 : tie.Need-returns-3
+unfolding noOf
+returns-3 c = rw (sym (c .before .before .before .before .same-bytes .ensures) ∙ c .before .before .before .if1 .left, sym (c .before .same-bytes2 .ensures) ∙ c .if2 .left)
+
+pub read-no-spec : {M : Type 1} → statement M
+read-no-spec =
+    tie.close
+    (tie.spec
+    (λ c. search needs)
+    (λ c κs. search needs)
+    returns
+    (λ c. search needs)
+    (λ c κs. search needs)
+    returns-2
+    returns-3)

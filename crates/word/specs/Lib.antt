@@ -1,0 +1,4 @@
+pub mod Words
+pub mod Decimals
+pub mod Properties
+pub mod Examples

@@ -1,0 +1,60 @@
+-- The 14 properties of paper 01, by number in its order: their names, defaults and rules.
+use Prim.Native.Nat.{ℕ}
+use mathlib.Core.Bool.{Bool, true, false, _||_, _&&_}
+use mathlib.Core.List.{List, [], _∷_, map}
+use lib.Dec.{eqb, leb, ltb}
+use Rattle.base.specs.Folds.{pick}
+use Rattle.text.specs.Strings.{bytes, indexFrom}
+use Rattle.word.specs.declared.Setting.{Setting}
+use Rattle.word.specs.declared.Setting.the-variants.{Value, Bad}
+use Rattle.word.specs.Words.{flagOf, noOf, kindOf, signalOf}
+use Rattle.word.specs.Decimals.{timeOf, countOf}
+
+-- "Properties: .."
+unfoldable pub propertyNames : List (List ℕ)
+unfolding bytes
+propertyNames = map bytes (
+    "type" ∷
+    "command" ∷
+    "stop-command" ∷
+    "restart" ∷
+    "smooth-recovery" ∷
+    "restart-delay" ∷
+    "restart-limit-interval" ∷
+    "restart-limit-count" ∷
+    "start-timeout" ∷
+    "stop-timeout" ∷
+    "depends-on" ∷
+    "depends-ms" ∷
+    "waits-for" ∷
+    "term-signal" ∷
+    [])
+
+-- the number of a property by its name; "Any other property is unknown": 14
+unfoldable pub propertyOf : List ℕ → ℕ
+propertyOf name = indexFrom name 0 propertyNames
+
+abbrev pub unknownProperty : ℕ
+unknownProperty = 14
+
+-- command and stop-command
+abbrev pub takesCommand : ℕ → Bool
+takesCommand p = eqb p 1 || eqb p 2
+
+-- depends-on, depends-ms and waits-for
+abbrev pub takesName : ℕ → Bool
+takesName p = leb 10 p && leb p 12
+
+-- the rule of each other property for its one token
+unfoldable pub settingOf : ℕ → List ℕ → Setting
+settingOf p w =
+    pick (eqb p 0) (kindOf w)
+    (pick (eqb p 3) (flagOf w)
+    (pick (eqb p 4) (noOf w)
+    (pick (eqb p 7) (countOf w)
+    (pick (eqb p 13) (signalOf w) (timeOf w)))))
+
+-- by property: no type (0), no command (0), "restart is no by default", "Defaults: restart-delay 2,000; start-timeout
+-- 600,000; stop-timeout 100,000; limit interval 100,000", limit count 3, nothing for the dependencies, TERM
+abbrev pub defaults : List ℕ
+defaults = 0 ∷ 0 ∷ 0 ∷ 0 ∷ 0 ∷ 2000 ∷ 100000 ∷ 3 ∷ 600000 ∷ 100000 ∷ 0 ∷ 0 ∷ 0 ∷ 3 ∷ []
