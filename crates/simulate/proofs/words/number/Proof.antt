@@ -1,0 +1,31 @@
+-- `number` is safe and ends: what is left of the word falls.
+use borrow.Author.Needs.{needs}
+use Prim.Native.Nat.{_-_, _≤_}
+use lib.ListN.{length}
+use Rattle.simulate.proofs.words.number.Statement.{statement}
+use Rattle.simulate.proofs.words.number.Tie as tie
+
+abbrev Inv-loop : tie.InvT-loop
+Inv-loop word n₀ i₀ n i = i ≤ length word
+
+abbrev μ-loop : tie.MeasureT-loop
+μ-loop word n₀ i₀ n i = length word - i
+
+pub number-spec : {M : Type 1} → statement M
+number-spec =
+    tie.close
+    (tie.spec
+    Inv-loop
+    μ-loop
+    (λ c. search needs)
+    (λ c. search needs)
+    (λ c. search needs)
+    (λ c. search needs)
+    (λ c κs. search needs)
+    (λ c. search needs)
+    (λ c. search needs)
+    (λ c. search needs)
+    (λ c. search needs)
+    (λ c. search needs)
+    (λ c. search needs)
+    (λ c. search needs))
