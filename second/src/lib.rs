@@ -3,6 +3,7 @@
 //! scenario runner, and the tools that hold two such programs against each
 //! other. It rests on the papers alone and shares no file with another part.
 
+pub mod careful;
 pub mod case;
 pub mod compare;
 pub mod engine;
