@@ -4,6 +4,7 @@ pub mod Loops
 pub mod Sums
 pub mod Bits
 pub mod Sets
+pub mod Words
 pub mod Filled
 pub mod Links
 pub mod Lists

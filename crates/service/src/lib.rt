@@ -6,6 +6,18 @@ ghost use Rattle.service.specs.Records.{freshRecord, freshState};
 // The most services that a set may have.
 pub const MAX_SERVICES: usize = 32;
 
+// The longest time that a setting may have, 86400 seconds in units of 0.1 ms.
+pub const LONGEST_TIME: u64 = 864000000;
+
+// The most that a limit count or a restart count may be.
+pub const MAX_COUNT: u64 = 65535;
+
+// The last time that the clock may show, 2^48.
+pub const LAST_CLOCK: u64 = 281474976710656;
+
+// The last time that may be pending: the last clock and the longest time.
+pub const LAST_TIME: u64 = 281475840710656;
+
 // Paper 01's types.
 pub enum Kind {
     Process,

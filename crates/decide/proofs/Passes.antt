@@ -1,0 +1,50 @@
+-- The two passes: the sets are gathered, then each rule's services, then the choice is made.
+use Prim.Native.Nat.{ℕ, _+_, _<_, _≤_}
+use native.Mathlib.Omega.{arith}
+use mathlib.Core.Path.{_≡_, refl, sym, ap, ap₂, _∙_}
+use mathlib.Core.Bool.{Bool}
+use lib.Dec.{leb}
+use borrow.Author.Tests.{le-leb, lt-leb}
+use Rattle.base.specs.Folds.{pick, fold}
+use Rattle.base.proofs.Loops.{Folded, folded-none, folded-more, folded-all}
+use Rattle.service.specs.Limits.{maxServices}
+use Rattle.service.specs.declared.Table.{Table}
+use Rattle.service.specs.declared.State.{State}
+use Rattle.rules.specs.declared.Choice.{Choice}
+use Rattle.rules.specs.Rules.{chosen}
+use Rattle.standing.specs.declared.Standing.{Standing}
+use Rattle.standing.specs.Standing.{nowhere, noting, standing}
+use Rattle.decide.specs.declared.Fits.{Fits}
+use Rattle.decide.specs.declared.Decision.{Decision}
+use Rattle.decide.specs.Fits.{noFits, fitting, fitted, choiceFrom}
+use Rattle.decide.specs.Decided.{decided, undecided, lostByUser}
+use Rattle.decide.proofs.Sets.{choice-as, user-as}
+
+-- the second pass: the sets are whole, and the services below s are fitted
+pub record Fitting (t : Table) (x : State) (st : Standing) (f : Fits) (s : ℕ) : Type 0 where
+  pub stands : st ≡ standing t x (t .count)
+  pub folded : Folded (fitting t x st) noFits (t .count) f s
+
+module _ {t : Table} {x : State} where
+  pub fitting-none : {st : Standing} {f : Fits} {i : ℕ} → Folded (noting t x) nowhere (t .count) st i → t .count ≤ i → f ≡ noFits
+      → Fitting t x st f 0
+  fitting-none h l e = record { stands = folded-all h l; folded = rw e folded-none }
+
+  pub fitting-more : {st : Standing} {f g : Fits} {s : ℕ} → Fitting t x st f s → s < t .count → g ≡ fitting t x st f s
+      → Fitting t x st g (s + 1)
+  fitting-more h l e = record { stands = h .stands; folded = folded-more (h .folded) l e }
+
+  pub fitting-all : {st : Standing} {f : Fits} {s : ℕ} {c : Choice} → t .count ≤ maxServices → Fitting t x st f s → t .count ≤ s
+      → c ≡ choiceFrom f (t .count)
+      → _≡_ {A = Decision} (record { choice = c; user = st .user }) (pick (leb (t .count) maxServices) (decided t x) undecided)
+  unfolding decided
+  fitting-all {st} {f} {s} {c} m h l e =
+      let small : t .count ≤ 64 = omega arith in
+      let one : c ≡ chosen t x
+      = e ∙ ap (λ a. choiceFrom a (t .count)) (folded-all (h .folded) l ∙ ap (λ a. fitted t x a (t .count)) (h .stands))
+      ∙ choice-as t x small in
+      let two : st .user ≡ lostByUser t x = ap (λ (a : Standing). a .user) (h .stands) ∙ user-as t x small in
+      rw (one, two, le-leb (t .count) maxServices m)
+
+pub too-many : (t : Table) (x : State) → maxServices < t .count → undecided ≡ pick (leb (t .count) maxServices) (decided t x) undecided
+too-many t x l = rw (lt-leb (t .count) maxServices l)

@@ -1,0 +1,52 @@
+-- `choose_later` meets its contract: the rules are tried in order.
+use Rattle.decide.specs.Fits.{laterChoice}
+use Rattle.decide.proofs.Tried.{in-fits, in-none}
+use borrow.Author.Needs.{needs}
+use Rattle.decide.proofs.choose_later.Statement.{statement}
+use Rattle.decide.proofs.choose_later.Tie as tie
+
+lowest-requires : tie.Need-lowest-requires
+lowest-requires c κs = search needs
+
+returns : tie.Need-returns
+unfolding laterChoice
+returns c = search in-fits
+
+lowest-requires-2 : tie.Need-lowest-requires-2
+lowest-requires-2 c κs = search needs
+
+returns-2 : tie.Need-returns-2
+unfolding laterChoice
+returns-2 c = search (in-fits, in-none)
+
+lowest-requires-3 : tie.Need-lowest-requires-3
+lowest-requires-3 c κs = search needs
+
+returns-3 : tie.Need-returns-3
+unfolding laterChoice
+returns-3 c = search (in-fits, in-none) depth 6
+
+lowest-requires-4 : tie.Need-lowest-requires-4
+lowest-requires-4 c κs = search needs
+
+returns-4 : tie.Need-returns-4
+unfolding laterChoice
+returns-4 c = search (in-fits, in-none) depth 7
+
+returns-5 : tie.Need-returns-5
+unfolding laterChoice
+returns-5 c = search (in-fits, in-none) depth 8
+
+pub choose-later-spec : {M : Type 1} → statement M
+choose-later-spec =
+    tie.close
+    (tie.spec
+    lowest-requires
+    returns
+    lowest-requires-2
+    returns-2
+    lowest-requires-3
+    returns-3
+    lowest-requires-4
+    returns-4
+    returns-5)

@@ -1,0 +1,162 @@
+// The events: start, stop, stop all, the end of a process and the clock. Each is a call of its own, with the checks in
+// paper 01's order; a refused call gives back the state it got.
+use base::has_bit;
+use event_records::end_record;
+use event_records::start_record;
+use event_records::stop_record;
+use service::Changed;
+use service::EventAnswer;
+use service::LAST_CLOCK;
+use service::Record;
+use service::Refusal;
+use service::State;
+use service::Table;
+use wellformed::is_formed;
+use wellformed::reach_set;
+ghost use mathlib.Core.Path.{_≡_};
+ghost use mathlib.Core.Bool.{_||_};
+ghost use Prim.Native.Nat.{_≤_};
+ghost use lib.Dec.{eqb};
+ghost use Rattle.base.specs.Sets.{hasBit};
+ghost use Rattle.service.specs.Limits.{maxServices};
+ghost use Rattle.service.specs.declared.EventAnswer.the-variants.{Done, Refused};
+ghost use Rattle.rules.specs.Events.{each, startedAs, stopped};
+ghost use Rattle.rules.specs.Calls.{start as startCall, stop as stopCall, stopAll, end as endCall, clock as clockCall, outcome, changedOutcome};
+
+fn refuse(k: Refusal, x: State) -> Changed
+    ensures { λ y. ⌜ y ≡ record { answer = Refused k; state = x } ⌝ }
+{
+    Changed {
+        answer: EventAnswer::Refused(k),
+        state: x,
+    }
+}
+
+fn done(x: State) -> Changed
+    ensures { λ y. ⌜ y ≡ record { answer = Done; state = x } ⌝ }
+{
+    Changed {
+        answer: EventAnswer::Done,
+        state: x,
+    }
+}
+
+// The record of service i after a start of s, which reaches the set m.
+fn start_place(s: usize, m: u64, i: usize, r: Record) -> Record
+    ensures { λ q. ⌜ q ≡ startedAs (eqb i s) (eqb i s || hasBit m i) r ⌝ }
+{
+    let own = i == s;
+    start_record(own, own | has_bit(m, i), r)
+}
+
+fn start_each(n: usize, x: State, s: usize, m: u64) -> State
+    requires { ⌜ n ≤ maxServices ⌝ }
+    ensures { λ y. ⌜ y ≡ each (λ d r. startedAs (eqb d s) (eqb d s || hasBit m d) r) x n ⌝ }
+{
+    let mut y = x;
+    let mut i: usize = 0;
+    while i < n {
+        let r = y.records[i];
+        let q = start_place(s, m, i, r);
+        y.records[i] = q;
+        i += 1;
+    }
+    y
+}
+
+fn stop_each(n: usize, x: State) -> State
+    requires { ⌜ n ≤ maxServices ⌝ }
+    ensures { λ y. ⌜ y ≡ each (λ d r. stopped r) x n ⌝ }
+{
+    let mut y = x;
+    let mut i: usize = 0;
+    while i < n {
+        let r = y.records[i];
+        let q = stop_record(r);
+        y.records[i] = q;
+        i += 1;
+    }
+    y
+}
+
+// Start s.
+pub fn start(t: Table, x: State, s: usize) -> Changed
+    ensures { λ y. ⌜ changedOutcome y ≡ outcome t x (startCall s) ⌝ }
+{
+    if is_formed(t, x) {
+        if s < t.count {
+            let m = reach_set(t, s);
+            let y = start_each(t.count, x, s, m);
+            return done(y);
+        }
+        return refuse(Refusal::NoService, x);
+    }
+    refuse(Refusal::IllFormed, x)
+}
+
+// Stop s.
+pub fn stop(t: Table, x: State, s: usize) -> Changed
+    ensures { λ y. ⌜ changedOutcome y ≡ outcome t x (stopCall s) ⌝ }
+{
+    if is_formed(t, x) {
+        if s < t.count {
+            let r = x.records[s];
+            let q = stop_record(r);
+            let mut y = x;
+            y.records[s] = q;
+            return done(y);
+        }
+        return refuse(Refusal::NoService, x);
+    }
+    refuse(Refusal::IllFormed, x)
+}
+
+// Stop for each.
+pub fn stop_all(t: Table, x: State) -> Changed
+    ensures { λ y. ⌜ changedOutcome y ≡ outcome t x stopAll ⌝ }
+{
+    if is_formed(t, x) {
+        let y = stop_each(t.count, x);
+        return done(y);
+    }
+    refuse(Refusal::IllFormed, x)
+}
+
+// The process of s has ended, good or bad.
+pub fn end(t: Table, x: State, s: usize, good: bool) -> Changed
+    ensures { λ y. ⌜ changedOutcome y ≡ outcome t x (endCall s good) ⌝ }
+{
+    if is_formed(t, x) {
+        if s < t.count {
+            let v = t.services[s];
+            let r = x.records[s];
+            if r.live {
+                let q = end_record(v, x.clock, good, r);
+                let mut y = x;
+                y.records[s] = q;
+                return done(y);
+            }
+            return refuse(Refusal::NotLive, x);
+        }
+        return refuse(Refusal::NoService, x);
+    }
+    refuse(Refusal::IllFormed, x)
+}
+
+// The clock shows another time.
+pub fn clock(t: Table, x: State, to: u64) -> Changed
+    ensures { λ y. ⌜ changedOutcome y ≡ outcome t x (clockCall to) ⌝ }
+{
+    if is_formed(t, x) {
+        if x.clock <= to {
+            if to <= LAST_CLOCK {
+                let mut y = x;
+                y.clock = to;
+                return done(y);
+            }
+            return refuse(Refusal::ClockPast, x);
+        }
+        return refuse(Refusal::ClockBack, x);
+    }
+    refuse(Refusal::IllFormed, x)
+}

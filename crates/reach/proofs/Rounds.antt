@@ -1,0 +1,70 @@
+-- The rounds: after each, the rows hold what is reached through the numbers passed. Links that agree below n reach the same.
+use Prim.Native.Nat.{ℕ, zero, suc, _+_, _≤_, _<_}
+use native.Mathlib.Numerals.{add-one}
+use native.Mathlib.Omega.{arith}
+use mathlib.Core.Path.{_≡_, refl, sym, ap, _∙_, subst}
+use mathlib.Core.Bool.{Bool, _&&_}
+use mathlib.Core.List.{List}
+use lib.Dec.{leb, ltb}
+use lib.ListN.{getD, length}
+use borrow.Author.Tests.{le-leb, lt-leb, lt-ltb, le-ltb}
+use Rattle.base.specs.Folds.{pick, some}
+use Rattle.base.specs.Sets.{hasBit}
+use Rattle.base.specs.Links.{through, reach, cyclic}
+use Rattle.base.proofs.Below.{some-as}
+use Rattle.base.proofs.Filled.{Filled, filled-as}
+use Rattle.reach.specs.Rows.{rowsAs, mostRows}
+
+-- the rows hold what each of n numbers reaches through those below k
+pub record Reaching (d : ℕ → ℕ) (n : ℕ) (rows : List ℕ) (k : ℕ) : Type 0 where
+  pub within : k ≤ n
+  pub filled : Filled 0 (reach d k) 32 rows n
+
+pub reaching-none : (n : ℕ) (rows : List ℕ) → length rows ≡ 32 → Reaching (rowsAs rows) n rows 0
+unfolding reach
+reaching-none n rows h = record { within = omega arith; filled = record { long = h; at = λ j l. refl } }
+
+module _ {d : ℕ → ℕ} {n : ℕ} where
+  pub reaching-more : {rows next : List ℕ} {k : ℕ} → Reaching d n rows k → k < n
+      → Filled 0 (λ j. through k (getD rows j 0) (getD rows k 0)) 32 next n → Reaching d n next (k + 1)
+  unfolding reach
+  reaching-more {rows} {next} {k} h l g =
+      let f = h .filled in
+      record { within = omega arith; filled = filled-as g (λ j m. rw (add-one, f .at j m, f .at k l)) }
+
+  pub reaching-all : {rows : List ℕ} {k : ℕ} → Reaching d n rows k → n ≤ k → Filled 0 (reach d n) 32 rows n
+  reaching-all {rows} {k} h l =
+      let w = h .within in
+      let e : n ≡ k = omega arith in
+      subst (λ m. Filled 0 (reach d m) 32 rows n) (sym e) (h .filled)
+
+-- links that agree below n
+pub reach-as : (d e : ℕ → ℕ) (n : ℕ) → ((j : ℕ) → j < n → d j ≡ e j) → (k i : ℕ) → k ≤ n → i < n → reach d k i ≡ reach e k i
+unfolding reach
+reach-as d e n h zero i l m = h i m
+reach-as d e n h (suc k) i l m = rw (reach-as d e n h k i (omega arith) m, reach-as d e n h k k (omega arith) l)
+
+pub cyclic-as : (d e : ℕ → ℕ) (n : ℕ) → ((j : ℕ) → j < n → d j ≡ e j) → cyclic d n ≡ cyclic e n
+unfolding cyclic
+cyclic-as d e n h =
+    some-as (λ i. hasBit (reach d n i) i) (λ i. hasBit (reach e n i) i) n
+    (λ i l. ap (λ m. hasBit m i) (reach-as d e n h n i (omega arith) l))
+
+-- the row of s, where there is one
+module _ (rows all : List ℕ) (n s : ℕ) where
+  pub row-reached : Filled 0 (reach (rowsAs rows) n) 32 all n → n ≤ 32 → s < n
+      → getD all s 0 ≡ pick (leb n mostRows && ltb s n) (reach (rowsAs rows) n s) 0
+  row-reached f l k = f .at s k ∙ rw (le-leb n 32 l, lt-ltb s n k)
+
+  pub row-past : n ≤ 32 → n ≤ s → 0 ≡ pick (leb n mostRows && ltb s n) (reach (rowsAs rows) n s) 0
+  row-past l k = rw (le-leb n 32 l, le-ltb s n k)
+
+  pub row-none : 32 < n → 0 ≡ pick (leb n mostRows && ltb s n) (reach (rowsAs rows) n s) 0
+  row-none l = rw (lt-leb n 32 l)
+
+-- b is what the code found of the rows after all rounds
+pub own-cyclic : (rows all : List ℕ) (n : ℕ) (b : Bool) → Filled 0 (reach (rowsAs rows) n) 32 all n → b ≡ some (λ i. hasBit (rowsAs all i) i) n
+    → b ≡ cyclic (rowsAs rows) n
+unfolding cyclic
+own-cyclic rows all n b f e =
+    e ∙ some-as (λ i. hasBit (rowsAs all i) i) (λ i. hasBit (reach (rowsAs rows) n i) i) n (λ i l. ap (λ m. hasBit m i) (f .at i l))

@@ -1,0 +1,56 @@
+-- `peel` meets its contract: the turn has passed the numbers below i.
+use borrow.Author.Needs.{needs}
+use Prim.Native.Nat.{_-_}
+use Rattle.reach.specs.Peeling.{Peeling}
+use Rattle.reach.proofs.Turns.{peeling-none, peeling-more, peeling-all}
+use Rattle.reach.proofs.peel.Statement.{statement}
+use Rattle.reach.proofs.peel.Tie as tie
+
+abbrev Inv-loop : tie.InvT-loop
+Inv-loop n start rows done₀ all₀ i₀ done all i = Peeling rows n done all i
+
+abbrev μ-loop : tie.MeasureT-loop
+μ-loop n start rows done₀ all₀ i₀ done all i = n - i
+
+loop-holds : tie.Need-loop-holds Inv-loop μ-loop
+loop-holds c = peeling-none (c .pre .1)
+
+mul-m : tie.Need-mul-m Inv-loop μ-loop
+mul-m c = search needs
+
+array-read-m : tie.Need-array-read-m Inv-loop μ-loop
+array-read-m c = search needs
+
+is-subset-requires : tie.Need-is-subset-requires Inv-loop μ-loop
+is-subset-requires c κs = search needs
+
+grow-requires : tie.Need-grow-requires Inv-loop μ-loop
+grow-requires c κs = search needs
+
+add-i : tie.Need-add-i Inv-loop μ-loop
+add-i c = search needs
+
+loop-less : tie.Need-loop-less Inv-loop μ-loop
+loop-less c = search needs
+
+loop-again : tie.Need-loop-again Inv-loop μ-loop
+loop-again c = search peeling-more
+
+returns : tie.Need-returns Inv-loop μ-loop
+returns c = search peeling-all
+
+pub peel-spec : {M : Type 1} → statement M
+peel-spec =
+    tie.close
+    (tie.spec
+    Inv-loop
+    μ-loop
+    loop-holds
+    mul-m
+    array-read-m
+    is-subset-requires
+    grow-requires
+    add-i
+    loop-less
+    loop-again
+    returns)

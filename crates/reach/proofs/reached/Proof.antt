@@ -1,0 +1,36 @@
+-- `reached` meets its contract: k rounds are done.
+use borrow.Author.Needs.{needs}
+use Prim.Native.Nat.{_-_}
+use Rattle.reach.specs.Rows.{rowsAs}
+use Rattle.reach.proofs.Rounds.{Reaching, reaching-none, reaching-more, reaching-all}
+use Rattle.reach.proofs.reached.Statement.{statement}
+use Rattle.reach.proofs.reached.Tie as tie
+
+abbrev Inv-loop : tie.InvT-loop
+Inv-loop n all₀ k₀ all k = Reaching (rowsAs all₀) n all k
+
+abbrev μ-loop : tie.MeasureT-loop
+μ-loop n all₀ k₀ all k = n - k
+
+loop-holds : tie.Need-loop-holds Inv-loop μ-loop
+loop-holds c = search reaching-none
+
+round-requires : tie.Need-round-requires Inv-loop μ-loop
+round-requires c κs = search needs
+
+add-k : tie.Need-add-k Inv-loop μ-loop
+add-k c = search needs
+
+loop-less : tie.Need-loop-less Inv-loop μ-loop
+loop-less c = search needs
+
+loop-again : tie.Need-loop-again Inv-loop μ-loop
+loop-again c = search reaching-more
+
+returns : tie.Need-returns Inv-loop μ-loop
+returns c = search reaching-all
+
+pub reached-spec : {M : Type 1} → statement M
+reached-spec =
+    tie.close
+    (tie.spec Inv-loop μ-loop loop-holds round-requires add-k loop-less loop-again returns)

@@ -1,0 +1,34 @@
+-- What a turn of peeling keeps: the set gathered holds only numbers that are on no cycle.
+use Prim.Native.Nat.{ℕ, _≤_, _<_}
+use mathlib.Core.Path.{_≡_}
+use mathlib.Core.Bool.{Bool, true}
+use mathlib.Core.List.{List}
+use lib.Dec.{eqb}
+use lib.Bits.{bitAnd, bitOr}
+use Rattle.base.specs.Sets.{hasBit, single}
+use Rattle.reach.specs.Rows.{rowsAs}
+
+-- all that i is linked to is safe
+pub data Safe (d : ℕ → ℕ) : ℕ → Type 0 where
+  safe : {i : ℕ} → ((j : ℕ) → hasBit (d i) j ≡ true → Safe d j) → Safe d i
+
+-- each number of the set is safe
+abbrev pub Grounded : (ℕ → ℕ) → ℕ → Type 0
+Grounded d m = (s : ℕ) → hasBit m s ≡ true → Safe d s
+
+abbrev pub subset : ℕ → ℕ → Bool
+subset m c = eqb (bitAnd m c) m
+
+-- i joins the set where all that it is linked to, m, is there
+abbrev pub grown : ℕ → ℕ → ℕ → ℕ
+grown done m i = bitOr done (single i (subset m done))
+
+-- a turn has the set done, and all below i are safe if `all` says so
+pub record Peeling (rows : List ℕ) (n done : ℕ) (all : Bool) (i : ℕ) : Type 0 where
+  pub bound : i ≤ n
+  pub grounded : Grounded (rowsAs rows) done
+  pub safes : all ≡ true → (s : ℕ) → s < i → Safe (rowsAs rows) s
+
+-- b says that the first n numbers are safe
+pub record AllSafe (rows : List ℕ) (n : ℕ) (b : Bool) : Type 0 where
+  pub safes : b ≡ true → (s : ℕ) → s < n → Safe (rowsAs rows) s

@@ -1,0 +1,231 @@
+// What each rule leaves of one service's record.
+use record_tests::is_starting;
+use record_tests::is_user;
+use record_tests::is_waiting;
+use rules::Rule;
+use service::Cause;
+use service::Deadline;
+use service::Kind;
+use service::Phase;
+use service::Record;
+use service::Settings;
+use settling::is_sound;
+use settling::settle;
+use settling::with_cause;
+use settling::with_phase;
+ghost use mathlib.Core.Path.{_≡_};
+ghost use mathlib.Core.Bool.{Bool, true, false};
+ghost use Prim.Native.Nat.{_≤_};
+ghost use Rattle.base.specs.Folds.{pick};
+ghost use Rattle.service.specs.declared.Cause.the-variants.{User, Fell, Failed};
+ghost use Rattle.service.specs.Limits.{longestTime, lastClock};
+ghost use Rattle.service.specs.Records.{isUser};
+ghost use Rattle.rules.specs.Rules.{deadlineIn, abandoned, released, begun, ending, expired};
+ghost use Rattle.settling.specs.Sound.{sound, Sound};
+ghost use Rattle.rules.specs.Events.{withCause};
+ghost use Rattle.rules.specs.declared.Rule.the-variants.{Expire};
+ghost use Rattle.rule_records.specs.Left.{leftBy, launchedAs};
+
+// The deadline at the end of a timeout; none where that is 0.
+fn deadline_in(now: u64, timeout: u64) -> Deadline
+    requires { ⌜ (now ≤ lastClock) × (timeout ≤ longestTime) ⌝ }
+    ensures { λ d. ⌜ d ≡ deadlineIn now timeout ⌝ }
+{
+    if timeout == 0 {
+        return Deadline::None;
+    }
+    Deadline::At(now + timeout)
+}
+
+fn user_or_fell(user: bool) -> Cause
+    ensures { λ c. ⌜ c ≡ pick user User Fell ⌝ }
+{
+    if user { Cause::User } else { Cause::Fell }
+}
+
+fn user_or_failed(c: Cause) -> Cause
+    ensures { λ d. ⌜ d ≡ pick (isUser c) User Failed ⌝ }
+{
+    if is_user(c) {
+        Cause::User
+    } else {
+        Cause::Failed
+    }
+}
+
+// Rule 2: down, aside, wanted off.
+fn abandon(r: Record) -> Record
+    ensures { λ q. ⌜ q ≡ abandoned r ⌝ }
+{
+    let c = r.cause;
+    let d = r.deadline;
+    Record {
+        phase: Phase::Down,
+        wanted: false,
+        aside: true,
+        live: r.live,
+        cause: c,
+        deadline: d,
+        killed: r.killed,
+        not_before: r.not_before,
+        last_launch: r.last_launch,
+        window_start: r.window_start,
+        restarts: r.restarts,
+    }
+}
+
+// Rule 5: waiting goes down; else cause released.
+fn release(r: Record) -> Record
+    ensures { λ q. ⌜ q ≡ released r ⌝ }
+{
+    let p = r.phase;
+    if is_waiting(p) {
+        return with_phase(Phase::Down, r);
+    }
+    with_cause(Cause::Released, r)
+}
+
+// Rule 6 for any type: the phase, the life and the deadline as told, launched now.
+fn launched(p: Phase, live: bool, d: Deadline, now: u64, r: Record) -> Record
+    ensures { λ q. ⌜ q ≡ launchedAs p live d now r ⌝ }
+{
+    let c = r.cause;
+    Record {
+        phase: p,
+        wanted: r.wanted,
+        aside: r.aside,
+        live: live,
+        cause: c,
+        deadline: d,
+        killed: r.killed,
+        not_before: r.not_before,
+        last_launch: now,
+        window_start: r.window_start,
+        restarts: r.restarts,
+    }
+}
+
+// Rule 6.
+fn begin(v: Settings, now: u64, r: Record) -> Record
+    requires { ⌜ Sound v now r ⌝ }
+    ensures { λ q. ⌜ q ≡ begun v now r ⌝ }
+{
+    let k = v.kind;
+    let old = r.deadline;
+    let new = deadline_in(now, v.start_timeout);
+    match k {
+        Kind::Process => launched(Phase::Up, true, old, now, r),
+        Kind::Scripted => launched(Phase::Starting, true, new, now, r),
+        Kind::Internal => launched(Phase::Up, r.live, old, now, r),
+    }
+}
+
+// Rule 7: ending, live, stop deadline.
+fn end(v: Settings, now: u64, r: Record) -> Record
+    requires { ⌜ Sound v now r ⌝ }
+    ensures { λ q. ⌜ q ≡ ending v now r ⌝ }
+{
+    let c = r.cause;
+    let d = deadline_in(now, v.stop_timeout);
+    Record {
+        phase: Phase::Ending,
+        wanted: r.wanted,
+        aside: r.aside,
+        live: true,
+        cause: c,
+        deadline: d,
+        killed: r.killed,
+        not_before: r.not_before,
+        last_launch: r.last_launch,
+        window_start: r.window_start,
+        restarts: r.restarts,
+    }
+}
+
+// Rule 8 where the service was starting.
+fn time_out(v: Settings, now: u64, r: Record) -> Record
+    requires { ⌜ Sound v now r ⌝ }
+    ensures { λ q. ⌜ q ≡ expired true v now r ⌝ }
+{
+    let c = r.cause;
+    let e = user_or_failed(c);
+    let d = deadline_in(now, v.stop_timeout);
+    Record {
+        phase: Phase::Ending,
+        wanted: r.wanted,
+        aside: r.aside,
+        live: r.live,
+        cause: e,
+        deadline: d,
+        killed: r.killed,
+        not_before: r.not_before,
+        last_launch: r.last_launch,
+        window_start: r.window_start,
+        restarts: r.restarts,
+    }
+}
+
+// Rule 8 where it was ending.
+fn kill(v: Settings, now: u64, r: Record) -> Record
+    ensures { λ q. ⌜ q ≡ expired false v now r ⌝ }
+{
+    let c = r.cause;
+    let d = r.deadline;
+    Record {
+        phase: Phase::Ending,
+        wanted: r.wanted,
+        aside: r.aside,
+        live: r.live,
+        cause: c,
+        deadline: d,
+        killed: true,
+        not_before: r.not_before,
+        last_launch: r.last_launch,
+        window_start: r.window_start,
+        restarts: r.restarts,
+    }
+}
+
+fn expire(v: Settings, now: u64, r: Record) -> Record
+    requires { ⌜ Sound v now r ⌝ }
+    ensures { λ q. ⌜ q ≡ leftBy Expire true v now r ⌝ }
+{
+    let p = r.phase;
+    if is_starting(p) {
+        return time_out(v, now, r);
+    }
+    kill(v, now, r)
+}
+
+fn lose(user: bool, r: Record) -> Record
+    ensures { λ q. ⌜ q ≡ withCause (pick user User Fell) r ⌝ }
+{
+    let c = user_or_fell(user);
+    with_cause(c, r)
+}
+
+fn leave_sound(k: Rule, user: bool, v: Settings, now: u64, r: Record) -> Record
+    requires { ⌜ Sound v now r × (sound v now r ≡ true) ⌝ }
+    ensures { λ q. ⌜ q ≡ leftBy k user v now r ⌝ }
+{
+    match k {
+        Rule::Lose => lose(user, r),
+        Rule::Abandon => abandon(r),
+        Rule::Settle => settle(v, now, r),
+        Rule::Wake => with_phase(Phase::Waiting, r),
+        Rule::Release => release(r),
+        Rule::Begin => begin(v, now, r),
+        Rule::End => end(v, now, r),
+        Rule::Expire => expire(v, now, r),
+    }
+}
+
+// The record that a rule leaves; one whose times are out of range is left as it is.
+pub fn leave(k: Rule, user: bool, v: Settings, now: u64, r: Record) -> Record
+    ensures { λ q. ⌜ q ≡ pick (sound v now r) (leftBy k user v now r) r ⌝ }
+{
+    if is_sound(v, now, r) {
+        return leave_sound(k, user, v, now, r);
+    }
+    r
+}
