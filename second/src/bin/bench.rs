@@ -271,8 +271,8 @@ fn queries<E: Engine>(table: &E::Table, count: usize, turns: u64) -> u64 {
 
 fn runs<E: Engine>(table: &E::Table, count: usize, turns: u64) -> u64 {
     let mut begun = State::FRESH;
-    let started = E::start(table, &mut begun, service_at(count - 1, count) as u64);
-    let mut sum = event_number(started, &begun.records[0]);
+    let last = service_at(count - 1, count) as u64;
+    let mut sum = E::start(table, &mut begun, last).err().unwrap_or(0);
     let (mut services, mut actions) = ([0; 128], [0; 128]);
     let mut state = begun.clone();
     for turn in 0..turns {
