@@ -10,6 +10,7 @@ pub mod engine;
 pub mod fixed;
 pub mod generate;
 pub mod loader;
+pub mod picture;
 pub mod program;
 pub mod random;
 pub mod reduce;
