@@ -1,3 +1,4 @@
 pub mod Values
 pub mod Loaded
 pub mod Guarantee
+pub mod Refusals

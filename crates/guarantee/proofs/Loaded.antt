@@ -27,14 +27,14 @@ use Rattle.text.specs.declared.Verdict.the-variants.{Bad as Bad, Good as Good}
 use Rattle.description.specs.Settings.{blank, dependencyAt, wordAt}
 use Rattle.description.specs.Texts.{textRead}
 use Rattle.description.specs.declared.Description.{Description}
-use Rattle.loader.specs.Checks.{find, namesFrom, sizesFrom}
+use Rattle.lent.specs.Checks.{find, namesFrom, sizesFrom}
 use Rattle.loader.specs.Links.{descriptionAt, linksAt, linksFrom, lowestCyclic, noLinks, servicesFrom, servicesOn, settingsOf, withLink}
 use Rattle.loader.specs.Load.{Outcome as LoadOutcome, acyclic, load, loadSet, passed, stored, tested}
-use Rattle.loader.specs.Parts.{nameAt, positioned, serviceCount, textAt}
+use Rattle.lent.specs.Parts.{nameAt, positioned, serviceCount, textAt}
 use Rattle.loader.specs.Texts.{descriptionsFrom, descriptionsOn, noDescriptions}
 use Rattle.loader.specs.Tokens.{bytesFrom}
-use Rattle.loader.specs.declared.Answer.{Answer as LoadAnswer}
-use Rattle.loader.specs.declared.Answer.the-variants.{Accepted, Refused as LoadRefused}
+use Rattle.lent.specs.declared.Answer.{Answer as LoadAnswer}
+use Rattle.lent.specs.declared.Answer.the-variants.{Accepted, Refused as LoadRefused}
 use Rattle.loader.specs.declared.Linked.{Linked}
 use Rattle.loader.specs.declared.Links.{Links}
 use Rattle.guarantee.specs.Guarantee.{LoadsFormed}

@@ -23,11 +23,11 @@ use Rattle.word.specs.Properties.{propertyNames, propertyOf, settingOf}
 use Rattle.description.specs.Settings.{valueAt, wordAt, known}
 use Rattle.description.specs.Lines.{dependencyRead, wordRead, tokensRead, propertyRead, lineRead}
 use Rattle.description.specs.Texts.{completion, linesRead, textRead}
-use Rattle.loader.specs.declared.Answer.{Answer}
-use Rattle.loader.specs.declared.Answer.the-variants.{Accepted, Refused}
+use Rattle.lent.specs.declared.Answer.{Answer}
+use Rattle.lent.specs.declared.Answer.the-variants.{Accepted, Refused}
 use Rattle.loader.specs.declared.Commands.{Commands}
-use Rattle.loader.specs.Parts.{risesTo, positioned, nameStart, nameAt, textAt}
-use Rattle.loader.specs.Checks.{find, namesFrom, sizesFrom}
+use Rattle.lent.specs.Parts.{risesTo, positioned, nameStart, nameAt, textAt}
+use Rattle.lent.specs.Checks.{find, namesFrom, sizesFrom}
 use Rattle.loader.specs.Texts.{descriptionsFrom}
 use Rattle.loader.specs.Links.{linksFrom, servicesFrom, lowestCyclic}
 use Rattle.loader.specs.Tokens.{commandBytes, commandSizes, bytesFrom, noCommands, commandsFrom}

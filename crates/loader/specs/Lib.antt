@@ -1,5 +1,3 @@
-pub mod Parts
-pub mod Checks
 pub mod Texts
 pub mod Links
 pub mod Tokens

@@ -19,12 +19,12 @@ use Rattle.text.specs.declared.Verdict.{Verdict}
 use Rattle.text.specs.declared.Verdict.the-variants.{Good, Bad}
 use Rattle.description.specs.declared.Description.{Description}
 use Rattle.description.specs.Settings.{blank, valueOf, dependencyAt, wordAt}
-use Rattle.loader.specs.declared.Answer.{Answer}
-use Rattle.loader.specs.declared.Answer.the-variants.{Accepted}
+use Rattle.lent.specs.declared.Answer.{Answer}
+use Rattle.lent.specs.declared.Answer.the-variants.{Accepted}
 use Rattle.loader.specs.declared.Links.{Links}
 use Rattle.loader.specs.declared.Linked.{Linked}
 use Rattle.loader.specs.declared.Services.{Services}
-use Rattle.loader.specs.Checks.{find}
+use Rattle.lent.specs.Checks.{find}
 use Rattle.loader.specs.Texts.{refusedIn}
 
 abbrev pub noLinks : Links

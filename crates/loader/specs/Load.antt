@@ -12,14 +12,14 @@ use Rattle.service.specs.Settings.{defaultSettings, noServices}
 use Rattle.service.specs.declared.Settings.{Settings}
 use Rattle.service.specs.declared.Table.{Table}
 use Rattle.description.specs.declared.Description.{Description}
-use Rattle.loader.specs.declared.Answer.{Answer}
-use Rattle.loader.specs.declared.Answer.the-variants.{Accepted, Refused}
+use Rattle.lent.specs.declared.Answer.{Answer}
+use Rattle.lent.specs.declared.Answer.the-variants.{Accepted, Refused}
 use Rattle.loader.specs.declared.Commands.{Commands}
 use Rattle.loader.specs.declared.Descriptions.{Descriptions}
 use Rattle.loader.specs.declared.Services.{Services}
 use Rattle.loader.specs.declared.Loaded.{Loaded}
-use Rattle.loader.specs.Parts.{serviceCount, positioned, nameAt, textAt}
-use Rattle.loader.specs.Checks.{namesFrom, sizesFrom}
+use Rattle.lent.specs.Parts.{serviceCount, positioned, nameAt, textAt}
+use Rattle.lent.specs.Checks.{namesFrom, sizesFrom}
 use Rattle.loader.specs.Texts.{noDescriptions, descriptionsFrom}
 use Rattle.loader.specs.Links.{servicesFrom, lowestCyclic}
 use Rattle.loader.specs.Tokens.{bytesFrom, noCommands, commandsFrom}

@@ -13,8 +13,8 @@ use Rattle.text.specs.Lines.{lineNumber}
 use Rattle.description.specs.declared.Description.{Description}
 use Rattle.description.specs.Settings.{blank}
 use Rattle.description.specs.Texts.{textRead}
-use Rattle.loader.specs.declared.Answer.{Answer}
-use Rattle.loader.specs.declared.Answer.the-variants.{Accepted, Refused}
+use Rattle.lent.specs.declared.Answer.{Answer}
+use Rattle.lent.specs.declared.Answer.the-variants.{Accepted, Refused}
 use Rattle.loader.specs.declared.Descriptions.{Descriptions}
 
 -- "line 0 outside 6 to 12 and 15"

@@ -1,19 +1,10 @@
 // A set of descriptions, lent as bytes and positions, loaded to the table of its services.
 use description::Description;
+use lent::Answer;
 use service::MAX_SERVICES;
 use service::Settings;
 use service::Table;
 use text::Verdict;
-
-// The answer of a load, and of each of its passes: accepted, or paper 01's number with the service and the line.
-pub enum Answer {
-    Accepted,
-    Refused {
-        number: u8,
-        service: usize,
-        line: usize,
-    },
-}
 
 // The descriptions read so far, by service.
 pub struct Descriptions {

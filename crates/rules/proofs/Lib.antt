@@ -7,6 +7,7 @@ pub mod Each
 pub mod Keeps
 pub mod Formed
 pub mod Runs
+pub mod Refusals
 pub mod Held
 pub mod Recorded
 pub mod Fed

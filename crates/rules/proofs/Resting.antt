@@ -2,7 +2,7 @@
 -- quiet comes.
 use Prim.Native.Nat.{_*_, _+_, _<_, _≤_, suc, zero, ℕ}
 use borrow.Author.Tests.{leb-true}
-use lib.Dec.{leb, lit≤, ltb}
+use lib.Dec.{leb, lit≤}
 use lib.ListN.{length}
 use mathlib.Core.Bool.{Bool, _&&_, false, not, true}
 use mathlib.Core.List.{List, [], _++_, _∷_}
@@ -10,8 +10,7 @@ use mathlib.Core.Path.{_∙_, _≡_, ap, refl, sym}
 use native.Mathlib.Nat.{le-refl}
 use native.Mathlib.Omega.{arith}
 use Rattle.base.specs.Folds.{listed, pick}
-use Rattle.base.proofs.Tests.{and-true, either, no-ft, not-both, not-false, not-true}
-use Rattle.service.specs.Limits.{lastClock}
+use Rattle.base.proofs.Tests.{and-true, either, not-both, not-false, not-true}
 use Rattle.service.specs.Numbers.{isQuiet}
 use Rattle.service.specs.Records.{freshState, isStarting, recordAt}
 use Rattle.service.specs.Settings.{settingsAt}
@@ -24,7 +23,7 @@ use Rattle.service.specs.declared.Signal.the-variants.{Hup, Int, Kill, None as 
 use Rattle.service.specs.declared.State.{State}
 use Rattle.service.specs.declared.Table.{Table}
 use Rattle.rules.specs.Calls.{Call, Outcome, afterCalls, check, clock, end, next, outcome, query, run, start, stop, stopAll}
-use Rattle.rules.specs.Demand.{Mark, Rests, RestsEverywhere, accepted, actionsIn, deadlineKill, eventless, handed, isAction, isEvent, isRefused, marks, marksOf, readBack, story}
+use Rattle.rules.specs.Demand.{Mark, Rests, RestsEverywhere, accepted, actionsIn, deadlineKill, eventless, handed, isAction, isEvent, marks, marksOf, readBack, story}
 use Rattle.rules.specs.Rules.{act, begunAction, endAction, hands, nextAction, termAction}
 use Rattle.rules.specs.Runs.{actionAfter, stateAfter, stepsToQuiet, writtenActions, writtenServices}
 use Rattle.rules.specs.WellFormed.{formed, tableFormed}
@@ -33,6 +32,7 @@ use Rattle.rules.specs.declared.Rule.the-variants.{Abandon, Begin, End, 
 use Rattle.rules.proofs.Formed.{always-formed, formed-sound, sound-calls}
 use Rattle.rules.proofs.Links.{table-sound}
 use Rattle.rules.proofs.Next.{Stays, next-either}
+use Rattle.rules.proofs.Refusals.{refused-same}
 use Rattle.rules.proofs.Rest.{Ends, acts, quiet}
 use Rattle.rules.proofs.Runs.{action-first, action-none, after-first, after-none, read-back, steps-loud}
 use Rattle.rules.proofs.Stages.{ends-within}
@@ -83,32 +83,6 @@ quiet-stays t x e =
     (next-either t x)
     (λ q. q)
     (λ q. absurd (not-both (rw (q .2 .does) at e) (loud (q .0) t x (q .1))))
-
--- ---- refused calls leave all
-
-module _ (t : Table) (x : State) where
-  abbrev Same : Call → Outcome → Type 0
-  Same c o = (o .state ≡ x) × (marksOf t x c (o .answer) (o .services) (o .actions) ≡ [])
-
-  checked : (c : Call) (b : Bool) (k : ℕ) (o : Outcome) → (isRefused (o .answer) ≡ true → Same c o) → isRefused (check c x b k o .answer) ≡ true → Same c (check c x b k o)
-  unfolding check marksOf
-  checked c true k o h = h
-  checked c false k o h = λ _. (refl, refl)
-
-  pub refused-same : (c : Call) → isRefused (outcome t x c .answer) ≡ true → (outcome t x c .state ≡ x) × (marks t x c ≡ [])
-  unfolding outcome marks
-  refused-same (start s) = checked (start s) (formed t x) _ _ (checked (start s) (ltb s (t .count)) _ _ (λ e. no-ft e))
-  refused-same (stop s) = checked (stop s) (formed t x) _ _ (checked (stop s) (ltb s (t .count)) _ _ (λ e. no-ft e))
-  refused-same (clock n) =
-      checked (clock n) (formed t x) _ _ (checked (clock n) (leb (x .clock) n) _ _ (checked (clock n) (leb n lastClock) _ _ (λ e. no-ft e)))
-  refused-same (end s good) =
-      checked (end s good) (formed t x) _ _ (checked (end s good) (ltb s (t .count)) _ _ (checked (end s good) (recordAt x s .live) _ _ (λ e. no-ft e)))
-  refused-same stopAll = checked stopAll (formed t x) _ _ (λ e. no-ft e)
-  refused-same next = checked next (formed t x) _ _ (λ e. no-ft e)
-  refused-same query = checked query (formed t x) _ _ (λ e. no-ft e)
-  refused-same (run ss as′) =
-      checked (run ss as′) (formed t x) _ _
-      (checked (run ss as′) (leb (4 * t .count) (length ss) && leb (4 * t .count) (length as′)) _ _ (λ e. no-ft e))
 
 -- ---- the actions among the marks
 

@@ -7,8 +7,8 @@ use lib.ListN.{length}
 use Rattle.base.specs.Folds.{pick, first}
 use Rattle.text.specs.Strings.{same}
 use Rattle.word.specs.Words.{isName}
-use Rattle.loader.specs.declared.Answer.{Answer}
-use Rattle.loader.specs.declared.Answer.the-variants.{Accepted, Refused}
+use Rattle.lent.specs.declared.Answer.{Answer}
+use Rattle.lent.specs.declared.Answer.the-variants.{Accepted, Refused}
 
 -- the service of a name among the first n, or n where it is none of theirs
 unfoldable pub find : (ℕ → List ℕ) → ℕ → List ℕ → ℕ
