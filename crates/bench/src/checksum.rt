@@ -16,7 +16,7 @@ use service::State;
 ghost use Prim.Native.Nat.{_<_};
 
 // The checksum with one number more.
-pub fn taken_up(sum: u64, number: u64) -> u64 {
+pub(crate) fn taken_up(sum: u64, number: u64) -> u64 {
     sum % 4294967296 * 31 + number % 4294967296
 }
 
@@ -49,7 +49,7 @@ fn flag(b: bool, weight: u64) -> u64 {
     if b { weight } else { 0 }
 }
 
-pub fn record_number(r: Record) -> u64 {
+pub(crate) fn record_number(r: Record) -> u64 {
     let p = r.phase;
     let c = r.cause;
     phase_number(p)
@@ -85,7 +85,7 @@ fn refused(k: Refusal) -> u64 {
 }
 
 // An event's answer, with the record that it left.
-pub fn event_number(a: EventAnswer, r: Record) -> u64 {
+pub(crate) fn event_number(a: EventAnswer, r: Record) -> u64 {
     match a {
         EventAnswer::Done => record_number(r),
         EventAnswer::Refused(k) => refused(k) | record_number(r),
@@ -99,14 +99,14 @@ fn act_number(a: Action) -> u64 {
     1 + action_service(a) % 32 + 32 * (action_number(a) % 16)
 }
 
-pub fn answer_number(a: ActionAnswer) -> u64 {
+pub(crate) fn answer_number(a: ActionAnswer) -> u64 {
     match a {
         ActionAnswer::Act(act) => act_number(act),
         ActionAnswer::Refused(k) => refused(k),
     }
 }
 
-pub fn run_number(a: RunAnswer) -> u64 {
+pub(crate) fn run_number(a: RunAnswer) -> u64 {
     match a {
         RunAnswer::Ran(k) => k as u64,
         RunAnswer::Refused(k) => refused(k),
@@ -120,7 +120,7 @@ fn earliest_number(d: Deadline) -> u64 {
     }
 }
 
-pub fn query_number(a: QueryAnswer) -> u64 {
+pub(crate) fn query_number(a: QueryAnswer) -> u64 {
     match a {
         QueryAnswer::Earliest(d) => earliest_number(d),
         QueryAnswer::Refused(k) => refused(k),
@@ -138,7 +138,7 @@ fn record_taken_up(sum: u64, r: Record) -> u64 {
 }
 
 // The checksum with the clock and the records of n services.
-pub fn state_taken_up(sum: u64, x: State, n: usize) -> u64 {
+pub(crate) fn state_taken_up(sum: u64, x: State, n: usize) -> u64 {
     let mut next = taken_up(sum, x.clock);
     let mut i: usize = 0;
     while i < 32 {

@@ -12,10 +12,10 @@ use service::Table;
 ghost use Prim.Native.Nat.{_<_};
 
 // The clock of the states in which services are up.
-pub const UP_CLOCK: u64 = 1000000;
+pub(crate) const UP_CLOCK: u64 = 1000000;
 
 // The number k modulo n; an n other than 2 and 8 counts as 32.
-pub fn modulo(k: usize, n: usize) -> usize
+pub(crate) fn modulo(k: usize, n: usize) -> usize
     ensures { λ r. ⌜ r < 32 ⌝ }
 {
     if n == 2 {
@@ -34,7 +34,7 @@ fn place_of(i: usize, n: usize) -> usize
     modulo(13 * (i % 32), n)
 }
 
-pub fn service_at(place: usize, n: usize) -> usize
+pub(crate) fn service_at(place: usize, n: usize) -> usize
     ensures { λ r. ⌜ r < 32 ⌝ }
 {
     modulo(5 * (place % 32), n)
@@ -78,7 +78,7 @@ fn settings_of(i: usize, n: usize) -> Settings {
     }
 }
 
-pub fn table_of(n: usize) -> Table {
+pub(crate) fn table_of(n: usize) -> Table {
     let mut t = Table::empty();
     let mut i: usize = 0;
     while i < 32 {
@@ -113,7 +113,7 @@ fn record_of(i: usize, up: bool) -> Record {
 }
 
 // Up below the given place, waiting from there on.
-pub fn state_up_to(first_waiting: usize, n: usize) -> State {
+pub(crate) fn state_up_to(first_waiting: usize, n: usize) -> State {
     let mut x = State::fresh();
     x.clock = UP_CLOCK;
     let mut i: usize = 0;

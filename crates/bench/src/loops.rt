@@ -20,7 +20,7 @@ use service::State;
 use service::Table;
 
 // Starts of service k modulo n in turn k; its record is put back after each turn.
-pub fn starts(t: Table, before: State, n: usize, turns: usize) -> u64 {
+pub(crate) fn starts(t: Table, before: State, n: usize, turns: usize) -> u64 {
     let mut x = before;
     let mut sum: u64 = 0;
     let mut k: usize = 0;
@@ -40,7 +40,7 @@ pub fn starts(t: Table, before: State, n: usize, turns: usize) -> u64 {
 }
 
 // Stops, likewise.
-pub fn stops(t: Table, before: State, n: usize, turns: usize) -> u64 {
+pub(crate) fn stops(t: Table, before: State, n: usize, turns: usize) -> u64 {
     let mut x = before;
     let mut sum: u64 = 0;
     let mut k: usize = 0;
@@ -60,7 +60,7 @@ pub fn stops(t: Table, before: State, n: usize, turns: usize) -> u64 {
 }
 
 // Stops of all, likewise.
-pub fn stops_of_all(t: Table, before: State, n: usize, turns: usize) -> u64 {
+pub(crate) fn stops_of_all(t: Table, before: State, n: usize, turns: usize) -> u64 {
     let mut x = before;
     let mut sum: u64 = 0;
     let mut k: usize = 0;
@@ -80,7 +80,7 @@ pub fn stops_of_all(t: Table, before: State, n: usize, turns: usize) -> u64 {
 }
 
 // Bad ends, likewise.
-pub fn ends(t: Table, before: State, n: usize, turns: usize) -> u64 {
+pub(crate) fn ends(t: Table, before: State, n: usize, turns: usize) -> u64 {
     let mut x = before;
     let mut sum: u64 = 0;
     let mut k: usize = 0;
@@ -100,7 +100,7 @@ pub fn ends(t: Table, before: State, n: usize, turns: usize) -> u64 {
 }
 
 // Clock readings, likewise.
-pub fn clocks(t: Table, before: State, n: usize, turns: usize) -> u64 {
+pub(crate) fn clocks(t: Table, before: State, n: usize, turns: usize) -> u64 {
     let mut x = before;
     let mut sum: u64 = 0;
     let mut k: usize = 0;
@@ -125,7 +125,7 @@ fn later(now: u64) -> u64 {
 }
 
 // Requests for the next action; the record of the service at place n / 2 is put back after each.
-pub fn requests(t: Table, before: State, n: usize, turns: usize) -> u64 {
+pub(crate) fn requests(t: Table, before: State, n: usize, turns: usize) -> u64 {
     let s = service_at(n / 2, n);
     let b = before.records[s];
     let mut x = before;
@@ -145,7 +145,7 @@ pub fn requests(t: Table, before: State, n: usize, turns: usize) -> u64 {
 }
 
 // Queries.
-pub fn queries(t: Table, before: State, n: usize, turns: usize) -> u64 {
+pub(crate) fn queries(t: Table, before: State, n: usize, turns: usize) -> u64 {
     let mut x = before;
     let mut sum: u64 = 0;
     let mut k: usize = 0;
@@ -159,7 +159,7 @@ pub fn queries(t: Table, before: State, n: usize, turns: usize) -> u64 {
 }
 
 // Runs to quiet of the same state at clock k.
-pub fn runs(t: Table, before: State, n: usize, turns: usize) -> u64 {
+pub(crate) fn runs(t: Table, before: State, n: usize, turns: usize) -> u64 {
     let s = n % 64;
     let mut services = [0u64; 128];
     let mut actions = [0u64; 128];
