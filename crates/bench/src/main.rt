@@ -2,6 +2,7 @@
 // checksum of the answers. The same loops in Rust are in second/src/bin/bench.rs, which says what each does.
 mod checksum;
 mod inputs;
+mod loads;
 mod loops;
 
 use check::same;
@@ -11,6 +12,7 @@ use inputs::service_at;
 use inputs::state_up_to;
 use inputs::table_of;
 use libc::STDOUT_FILENO;
+use loads::loads;
 use loops::clocks;
 use loops::ends;
 use loops::queries;
@@ -90,6 +92,9 @@ fn action_loop(name: &[u8], n: usize, turns: usize) -> u64 {
     }
     if same(name, b"query") {
         return query_loop(n, turns);
+    }
+    if same(name, b"load") {
+        return loads(n, turns);
     }
     if same(name, b"run") {
         return run_loop(n, turns);
