@@ -3,12 +3,14 @@
 //! scenario runner, and the tools that hold two such programs against each
 //! other. It rests on the papers alone and shares no file with another part.
 
+pub mod careful;
 pub mod case;
 pub mod compare;
 pub mod engine;
 pub mod fixed;
 pub mod generate;
 pub mod loader;
+pub mod picture;
 pub mod program;
 pub mod random;
 pub mod reduce;

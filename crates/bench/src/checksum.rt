@@ -1,0 +1,152 @@
+// The checksum: answers and states as numbers, taken up one after the other.
+use actions::action_number;
+use actions::action_service;
+use actions::is_quiet;
+use service::Action;
+use service::ActionAnswer;
+use service::Cause;
+use service::Deadline;
+use service::EventAnswer;
+use service::Phase;
+use service::QueryAnswer;
+use service::Record;
+use service::Refusal;
+use service::RunAnswer;
+use service::State;
+ghost use Prim.Native.Nat.{_<_};
+
+// The checksum with one number more.
+pub(crate) fn taken_up(sum: u64, number: u64) -> u64 {
+    sum % 4294967296 * 31 + number % 4294967296
+}
+
+fn phase_number(p: Phase) -> u64
+    ensures { λ r. ⌜ r < 8 ⌝ }
+{
+    match p {
+        Phase::Down => 0,
+        Phase::Waiting => 1,
+        Phase::Starting => 2,
+        Phase::Up => 3,
+        Phase::Ending => 4,
+    }
+}
+
+fn cause_number(c: Cause) -> u64
+    ensures { λ r. ⌜ r < 8 ⌝ }
+{
+    match c {
+        Cause::None => 0,
+        Cause::User => 1,
+        Cause::Released => 2,
+        Cause::Fell => 3,
+        Cause::Failed => 4,
+    }
+}
+
+// The weight of a flag that is set, or 0.
+fn flag(b: bool, weight: u64) -> u64 {
+    if b { weight } else { 0 }
+}
+
+pub(crate) fn record_number(r: Record) -> u64 {
+    let p = r.phase;
+    let c = r.cause;
+    phase_number(p)
+        | flag(r.wanted, 64)
+        | flag(r.aside, 128)
+        | flag(r.live, 256)
+        | flag(r.killed, 512)
+        | (8 * cause_number(c))
+}
+
+fn time_number(d: Deadline) -> u64 {
+    match d {
+        Deadline::None => 0,
+        Deadline::At(e) => 1 + e % 4294967295,
+    }
+}
+
+fn refusal_number(k: Refusal) -> u64
+    ensures { λ r. ⌜ r < 32 ⌝ }
+{
+    match k {
+        Refusal::IllFormed => 24,
+        Refusal::NoService => 20,
+        Refusal::NotLive => 21,
+        Refusal::ClockBack => 22,
+        Refusal::ClockPast => 23,
+        Refusal::NoRoom => 25,
+    }
+}
+
+fn refused(k: Refusal) -> u64 {
+    1024 * refusal_number(k)
+}
+
+// An event's answer, with the record that it left.
+pub(crate) fn event_number(a: EventAnswer, r: Record) -> u64 {
+    match a {
+        EventAnswer::Done => record_number(r),
+        EventAnswer::Refused(k) => refused(k) | record_number(r),
+    }
+}
+
+fn act_number(a: Action) -> u64 {
+    if is_quiet(a) {
+        return 0;
+    }
+    1 + action_service(a) % 32 + 32 * (action_number(a) % 16)
+}
+
+pub(crate) fn answer_number(a: ActionAnswer) -> u64 {
+    match a {
+        ActionAnswer::Act(act) => act_number(act),
+        ActionAnswer::Refused(k) => refused(k),
+    }
+}
+
+pub(crate) fn run_number(a: RunAnswer) -> u64 {
+    match a {
+        RunAnswer::Ran(k) => k as u64,
+        RunAnswer::Refused(k) => refused(k),
+    }
+}
+
+fn earliest_number(d: Deadline) -> u64 {
+    match d {
+        Deadline::None => 0,
+        Deadline::At(e) => e,
+    }
+}
+
+pub(crate) fn query_number(a: QueryAnswer) -> u64 {
+    match a {
+        QueryAnswer::Earliest(d) => earliest_number(d),
+        QueryAnswer::Refused(k) => refused(k),
+    }
+}
+
+fn record_taken_up(sum: u64, r: Record) -> u64 {
+    let d = r.deadline;
+    let mut next = taken_up(sum, record_number(r));
+    next = taken_up(next, time_number(d));
+    next = taken_up(next, r.not_before);
+    next = taken_up(next, r.last_launch);
+    next = taken_up(next, r.window_start);
+    taken_up(next, r.restarts)
+}
+
+// The checksum with the clock and the records of n services.
+pub(crate) fn state_taken_up(sum: u64, x: State, n: usize) -> u64 {
+    let mut next = taken_up(sum, x.clock);
+    let mut i: usize = 0;
+    while i < 32 {
+        if i < n {
+            let r = x.records[i];
+            next = record_taken_up(next, r);
+        }
+        i += 1;
+    }
+    next
+}

@@ -1,0 +1,128 @@
+// The inputs of the loops: they follow from the number n of services, 2, 8 or 32, alone. docs/BENCHMARKS.md says how.
+use base::single_of;
+use service::Cause;
+use service::Deadline;
+use service::Kind;
+use service::Phase;
+use service::Record;
+use service::Settings;
+use service::Signal;
+use service::State;
+use service::Table;
+ghost use Prim.Native.Nat.{_<_};
+
+// The clock of the states in which services are up.
+pub(crate) const UP_CLOCK: u64 = 1000000;
+
+// The number k modulo n; an n other than 2 and 8 counts as 32.
+pub(crate) fn modulo(k: usize, n: usize) -> usize
+    ensures { λ r. ⌜ r < 32 ⌝ }
+{
+    if n == 2 {
+        return k % 2;
+    }
+    if n == 8 {
+        return k % 8;
+    }
+    k % 32
+}
+
+// The place of service i in the order of the dependencies.
+fn place_of(i: usize, n: usize) -> usize
+    ensures { λ r. ⌜ r < 32 ⌝ }
+{
+    modulo(13 * (i % 32), n)
+}
+
+pub(crate) fn service_at(place: usize, n: usize) -> usize
+    ensures { λ r. ⌜ r < 32 ⌝ }
+{
+    modulo(5 * (place % 32), n)
+}
+
+// The service so many places before this one, as a set; the empty set where there is none.
+fn dependency(place: usize, back: usize, n: usize) -> u64 {
+    if back <= place {
+        return single_of(service_at(place - back, n), true);
+    }
+    0
+}
+
+fn is_internal(i: usize) -> bool {
+    i % 8 == 7
+}
+
+fn kind_of(i: usize) -> Kind {
+    if is_internal(i) {
+        Kind::Internal
+    } else {
+        Kind::Process
+    }
+}
+
+fn settings_of(i: usize, n: usize) -> Settings {
+    let place = place_of(i, n);
+    Settings {
+        kind: kind_of(i),
+        restart: true,
+        has_stop: false,
+        signal: Signal::Term,
+        delay: Settings::RESTART_DELAY,
+        interval: Settings::RESTART_LIMIT_INTERVAL,
+        limit: Settings::RESTART_LIMIT_COUNT,
+        start_timeout: Settings::START_TIMEOUT,
+        stop_timeout: Settings::STOP_TIMEOUT,
+        hard: dependency(place, 1, n),
+        milestone: dependency(place, 2, n),
+        soft: dependency(place, 3, n),
+    }
+}
+
+pub(crate) fn table_of(n: usize) -> Table {
+    let mut t = Table::empty();
+    let mut i: usize = 0;
+    while i < 32 {
+        if i < n {
+            let v = settings_of(i, n);
+            t.services[i] = v;
+        }
+        i += 1;
+    }
+    t.count = n;
+    t
+}
+
+fn phase_of(up: bool) -> Phase {
+    if up { Phase::Up } else { Phase::Waiting }
+}
+
+fn record_of(i: usize, up: bool) -> Record {
+    Record {
+        phase: phase_of(up),
+        wanted: true,
+        aside: false,
+        live: up & !is_internal(i),
+        cause: Cause::None,
+        deadline: Deadline::None,
+        killed: false,
+        not_before: 0,
+        last_launch: 0,
+        window_start: 0,
+        restarts: 0,
+    }
+}
+
+// Up below the given place, waiting from there on.
+pub(crate) fn state_up_to(first_waiting: usize, n: usize) -> State {
+    let mut x = State::fresh();
+    x.clock = UP_CLOCK;
+    let mut i: usize = 0;
+    while i < 32 {
+        if i < n {
+            let r = record_of(i, place_of(i, n) < first_waiting);
+            x.records[i] = r;
+        }
+        i += 1;
+    }
+    x
+}
