@@ -15,7 +15,7 @@ use crate::output::put_numbered;
 use crate::output::put_set;
 use crate::session::Session;
 use crate::words::word;
-use loader::Commands;
+use storing::Commands;
 use service::Deadline;
 use service::Kind;
 use service::MAX_SERVICES;

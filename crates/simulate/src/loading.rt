@@ -6,7 +6,7 @@ use crate::session::Answered;
 use crate::session::Session;
 use lent::Answer;
 use lent::name_at;
-use loader::Commands;
+use storing::Commands;
 use loader::Loaded;
 use service::MAX_SERVICES;
 use service::Table;

@@ -2,7 +2,7 @@
 use crate::command::Value;
 use crate::names::cause_of;
 use crate::names::phase_of;
-use loader::Commands;
+use storing::Commands;
 use service::Deadline;
 use service::MAX_SERVICES;
 use service::Record;
