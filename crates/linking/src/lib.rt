@@ -212,7 +212,13 @@ fn settings_of(d: Description, l: Links) -> Settings
 }
 
 // The settings of each of the first n services, put into the places lent for them.
-fn make(lent: &[u8], ends: &[usize], n: usize, ds: [Description; MAX_SERVICES], none: [Settings; MAX_SERVICES]) -> Services
+fn make(
+    lent: &[u8],
+    ends: &[usize],
+    n: usize,
+    ds: [Description; MAX_SERVICES],
+    none: [Settings; MAX_SERVICES],
+) -> Services
     requires { ⌜ n ≤ maxServices ⌝ }
     ensures { λ r. ⌜ r ≡ servicesFrom (nameAt (now (lent .entry)) (now (ends .entry))) (textAt (now (lent .entry)) (now (ends .entry))) ds n none 0 n ⌝ }
 {
@@ -255,7 +261,12 @@ fn refuse(text: &[u8], j: usize, v: Verdict, services: [Settings; MAX_SERVICES])
 }
 
 // The settings of a set of n services, or the first dependency on a service not in it. For more than there are places nothing is made.
-pub fn make_services(lent: &[u8], ends: &[usize], n: usize, ds: [Description; MAX_SERVICES]) -> Services
+pub fn make_services(
+    lent: &[u8],
+    ends: &[usize],
+    n: usize,
+    ds: [Description; MAX_SERVICES],
+) -> Services
     ensures { λ r. ⌜ r ≡ servicesIn (nameAt (now (lent .entry)) (now (ends .entry))) (textAt (now (lent .entry)) (now (ends .entry))) ds n ⌝ }
 {
     let none = Settings::default();

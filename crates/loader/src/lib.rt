@@ -67,7 +67,12 @@ fn refuse_text(text: &[u8], j: usize, v: Verdict, ds: [Description; MAX_SERVICES
 }
 
 // The texts of the first n services read in turn, put into the places given.
-fn read_into(lent: &[u8], ends: &[usize], n: usize, none: [Description; MAX_SERVICES]) -> Descriptions
+fn read_into(
+    lent: &[u8],
+    ends: &[usize],
+    n: usize,
+    none: [Description; MAX_SERVICES],
+) -> Descriptions
     requires { ⌜ n ≤ maxServices ⌝ }
     ensures { λ r. ⌜ r ≡ descriptionsFrom (textAt (now (lent .entry)) (now (ends .entry))) none 0 n ⌝ }
 {
@@ -134,7 +139,13 @@ fn place_commands(text: &[u8], d: Description, o: usize) -> Commands
 }
 
 // Where the tokens of each service are, put into the places given.
-fn place_all(lent: &[u8], ends: &[usize], n: usize, ds: [Description; MAX_SERVICES], none: [Commands; MAX_SERVICES]) -> [Commands; MAX_SERVICES]
+fn place_all(
+    lent: &[u8],
+    ends: &[usize],
+    n: usize,
+    ds: [Description; MAX_SERVICES],
+    none: [Commands; MAX_SERVICES],
+) -> [Commands; MAX_SERVICES]
     requires { ⌜ (n ≤ maxServices) × Short (textAt (now lent) (now ends)) n ⌝ }
     ensures { λ r. ⌜ r ≡ commandsFrom (textAt (now (lent .entry)) (now (ends .entry))) ds 0 none 0 n ⌝ }
 {
@@ -181,7 +192,13 @@ fn write_commands(text: &[u8], d: Description, tokens: &mut [u8], o: usize)
 }
 
 // Writes the tokens of all services from the start of the buffer on.
-fn write_all(lent: &[u8], ends: &[usize], n: usize, ds: [Description; MAX_SERVICES], tokens: &mut [u8])
+fn write_all(
+    lent: &[u8],
+    ends: &[usize],
+    n: usize,
+    ds: [Description; MAX_SERVICES],
+    tokens: &mut [u8],
+)
     requires { ⌜ (n ≤ maxServices) × Short (textAt (now lent) (now ends)) n ⌝ }
     ensures { λ _. ⌜ now (tokens .exit) ≡ sets (now (tokens .entry)) 0 (bytesFrom (textAt (now (lent .entry)) (now (ends .entry))) ds 0 n) ⌝ }
 {
@@ -275,7 +292,13 @@ fn store_acyclic(
 }
 
 // The dependencies, 15, before the cycle.
-fn link_set(lent: &[u8], ends: &[usize], n: usize, ds: [Description; MAX_SERVICES], tokens: &mut [u8]) -> Loaded
+fn link_set(
+    lent: &[u8],
+    ends: &[usize],
+    n: usize,
+    ds: [Description; MAX_SERVICES],
+    tokens: &mut [u8],
+) -> Loaded
     requires { ⌜ (n ≤ maxServices) × Short (textAt (now lent) (now ends)) n ⌝ }
     ensures { λ r. ⌜ _≡_ {A = Outcome} (record { loaded = r; buffer = now (tokens .exit) }) (withServices (textAt (now (lent .entry)) (now (ends .entry))) (now (tokens .entry)) n ds (servicesFrom (nameAt (now (lent .entry)) (now (ends .entry))) (textAt (now (lent .entry)) (now (ends .entry))) ds n (replicate maxServices defaultSettings) 0 n)) ⌝ }
 {

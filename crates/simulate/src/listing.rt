@@ -15,7 +15,6 @@ use crate::output::put_numbered;
 use crate::output::put_set;
 use crate::session::Session;
 use crate::words::word;
-use storing::Commands;
 use service::Deadline;
 use service::Kind;
 use service::MAX_SERVICES;
@@ -23,6 +22,7 @@ use service::Record;
 use service::Settings;
 use service::State;
 use service::Table;
+use storing::Commands;
 use text::part;
 
 // A service with its name and its type.

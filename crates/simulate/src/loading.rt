@@ -6,10 +6,10 @@ use crate::session::Answered;
 use crate::session::Session;
 use lent::Answer;
 use lent::name_at;
-use storing::Commands;
 use loader::Loaded;
 use service::MAX_SERVICES;
 use service::Table;
+use storing::Commands;
 
 // The place after so many tokens, each of which ends in a zero byte.
 fn skip(tokens: &[u8], at: usize, count: usize) -> usize {

@@ -13,11 +13,11 @@ use crate::output::put_bytes;
 use crate::output::put_numbered;
 use crate::session::Answered;
 use crate::session::Session;
-use storing::Commands;
-use storing::Tokens;
 use service::MAX_SERVICES;
 use service::State;
 use service::Table;
+use storing::Commands;
+use storing::Tokens;
 use text::part;
 
 // The services given so far, what is loaded, and the place in the output.

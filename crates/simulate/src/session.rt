@@ -2,13 +2,13 @@
 use crate::command::Value;
 use crate::names::cause_of;
 use crate::names::phase_of;
-use storing::Commands;
 use service::Deadline;
 use service::MAX_SERVICES;
 use service::Record;
 use service::Settings;
 use service::State;
 use service::Table;
+use storing::Commands;
 
 pub struct Session {
     pub loaded: bool,

@@ -40,10 +40,11 @@ returns c =
 loop-again : tie.Need-loop-again Inv-loop μ-loop
 loop-again c =
     let z : length (c .before .before .before .before .before .before .before .before .before .before .before .args .t4) ≡ maxServices = search (needs, length-mapped, c .before .before .before .before .before .before .before .before .before .before .before .good .1 .1 .1 .0) in
-    let h : c .before .before .before .before .before .before .before .before .loop .j < maxServices = omega (arith, c .before .before .before .before .before .before .before .loop-test .taken, c .before .before .before .before .before .before .before .before .before .before .before .pre) in
-    (search needs,
-    c .before .before .before .before .before .before .before .before .loop .inv .1
-    ∙ services-made _ _ _ _ _ _ (c .before .before .before .before .before .before .before .loop-test .taken) (description-in (c .before .before .before .before .before .before .before .before .before .before .before .args .t4) _ none z h) (c .before .before .before .before .before .text-at .ensures) (c .before .before .before .before .resolve .ensures) (c .before .before .enum-told .given .1) (c .settings-of .ensures))
+    let h : c .before .before .before .before .before .before .before .before .loop .j < maxServices = omega (arith, c .before .before .before .before .before .before .before .loop-test .taken, c .before .before .before .before .before .before .before .before .before .before .before .pre) in (
+      search needs,
+      c .before .before .before .before .before .before .before .before .loop .inv .1
+          ∙ services-made _ _ _ _ _ _ (c .before .before .before .before .before .before .before .loop-test .taken) (description-in (c .before .before .before .before .before .before .before .before .before .before .before .args .t4) _ none z h) (c .before .before .before .before .before .text-at .ensures) (c .before .before .before .before .resolve .ensures) (c .before .before .enum-told .given .1) (c .settings-of .ensures),
+    )
 
 returns-2 : tie.Need-returns-2 Inv-loop μ-loop
 returns-2 c = sym (c .before .loop .inv .1 ∙ services-end _ _ _ _ _ _ _ (omega (arith, c .loop-test .left)))

@@ -23,7 +23,7 @@ loop-again : tie.Need-loop-again Inv-loop μ-loop
 loop-again c = (
   search needs,
   c .before .before .before .before .before .before .loop .inv .1
-  ∙ links-found _ _ _ _ _ _ (c .before .before .before .before .if1 .taken) (c .before .before .before .dependency-at .ensures) (c .before .before .find-word .ensures) (c .before .if2 .taken) (c .with-link .ensures),
+      ∙ links-found _ _ _ _ _ _ (c .before .before .before .before .if1 .taken) (c .before .before .before .dependency-at .ensures) (c .before .before .find-word .ensures) (c .before .if2 .taken) (c .with-link .ensures),
 )
 
 returns : tie.Need-returns Inv-loop μ-loop

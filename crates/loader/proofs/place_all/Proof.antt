@@ -46,11 +46,12 @@ add-o c =
 loop-again : tie.Need-loop-again Inv-loop μ-loop
 loop-again c =
     let z : length (c .before .before .before .before .before .before .before .before .args .t4) ≡ maxServices = search (needs, length-mapped, c .before .before .before .before .before .before .before .before .good .1 .1 .1 .0) in
-    let h : c .before .before .before .before .before .loop .j < maxServices = omega (arith, c .before .before .before .before .loop-test .taken, c .before .before .before .before .before .before .before .before .pre .0) in
-    (search needs,
-    omega (arith, c .room-of .ensures .1, c .before .before .before .before .before .loop .inv .1),
-    c .before .before .before .before .before .loop .inv .2
-    ∙ commands-more _ _ _ _ (c .before .before .before .before .loop-test .taken) (c .before .before .before .text-at .ensures) (description-in (c .before .before .before .before .before .before .before .before .args .t4) _ none z h) _ _ (c .before .place-commands .ensures) (c .room-of .ensures .0))
+    let h : c .before .before .before .before .before .loop .j < maxServices = omega (arith, c .before .before .before .before .loop-test .taken, c .before .before .before .before .before .before .before .before .pre .0) in (
+      search needs,
+      omega (arith, c .room-of .ensures .1, c .before .before .before .before .before .loop .inv .1),
+      c .before .before .before .before .before .loop .inv .2
+          ∙ commands-more _ _ _ _ (c .before .before .before .before .loop-test .taken) (c .before .before .before .text-at .ensures) (description-in (c .before .before .before .before .before .before .before .before .args .t4) _ none z h) _ _ (c .before .place-commands .ensures) (c .room-of .ensures .0),
+    )
 
 returns : tie.Need-returns Inv-loop μ-loop
 returns c = sym (c .before .loop .inv .2 ∙ commands-end _ _ _ _ _ _ (omega (arith, c .loop-test .left)))

@@ -29,7 +29,7 @@ loop-again : tie.Need-loop-again Inv-loop μ-loop
 loop-again c = (
   search needs,
   c .before .before .before .before .before .before .loop .inv .1
-  ∙ texts-read _ _ _ _ (c .before .before .before .before .before .loop-test .taken) (c .before .before .before .before .text-at .ensures) (c .before .before .before .read-text .ensures) (c .before .enum-told .given .1) refl,
+      ∙ texts-read _ _ _ _ (c .before .before .before .before .before .loop-test .taken) (c .before .before .before .before .text-at .ensures) (c .before .before .before .read-text .ensures) (c .before .enum-told .given .1) refl,
 )
 
 returns-2 : tie.Need-returns-2 Inv-loop μ-loop

@@ -46,12 +46,13 @@ add-o c =
 loop-again : tie.Need-loop-again Inv-loop μ-loop
 loop-again c =
     let z : length (c .before .before .before .before .before .before .before .before .before .before .before .before .args .t4) ≡ maxServices = search (needs, length-mapped, c .before .before .before .before .before .before .before .before .before .before .before .before .good .1 .1 .1 .0) in
-    let h : c .before .before .before .before .before .before .before .before .loop .j < maxServices = omega (arith, c .before .before .before .before .before .before .before .loop-test .taken, c .before .before .before .before .before .before .before .before .before .before .before .before .pre .0) in
-    (search needs,
-    omega (arith, c .room-of .ensures .1, c .before .before .before .before .before .before .before .before .loop .inv .1),
-    search needs,
-    c .before .before .before .before .before .before .before .before .loop .inv .3
-    ∙ write-more _ _ _ _ (c .before .before .before .before .before .before .before .loop-test .taken) (c .before .before .before .before .before .before .text-at .ensures) (description-in (c .before .before .before .before .before .before .before .before .before .before .before .before .args .t4) _ none z h) _ _ (c .before .before .before .write-commands .ensures) (c .room-of .ensures .0))
+    let h : c .before .before .before .before .before .before .before .before .loop .j < maxServices = omega (arith, c .before .before .before .before .before .before .before .loop-test .taken, c .before .before .before .before .before .before .before .before .before .before .before .before .pre .0) in (
+      search needs,
+      omega (arith, c .room-of .ensures .1, c .before .before .before .before .before .before .before .before .loop .inv .1),
+      search needs,
+      c .before .before .before .before .before .before .before .before .loop .inv .3
+          ∙ write-more _ _ _ _ (c .before .before .before .before .before .before .before .loop-test .taken) (c .before .before .before .before .before .before .text-at .ensures) (description-in (c .before .before .before .before .before .before .before .before .before .before .before .before .args .t4) _ none z h) _ _ (c .before .before .before .write-commands .ensures) (c .room-of .ensures .0),
+    )
 
 returns : tie.Need-returns Inv-loop μ-loop
 returns c =
