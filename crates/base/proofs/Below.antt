@@ -1,12 +1,12 @@
 -- What a test or a search over the numbers below a bound says of each of them.
-use Prim.Native.Nat.{ℕ, zero, suc, _+_, _≤_, _<_}
+use Prim.Native.Nat.{ℕ, zero, suc, _+_, _<_}
 use native.Mathlib.Nat.{not-suc-le-zero, le-of-suc-le-suc, eq-or-lt-of-le, lt-suc-self, le-step}
 use native.Mathlib.Omega.{arith}
-use mathlib.Core.Path.{_≡_, refl, sym, ap, _∙_, subst}
-use mathlib.Core.Bool.{Bool, true, false, _&&_, _||_}
-use mathlib.Core.Logic.{_↔_, _⊎_, inl, inr}
-use Rattle.base.specs.Folds.{pick, fold, some, every, firstFrom, first}
-use Rattle.base.proofs.Tests.{no-ft, and-true, or-true, or-false, or-not, refute, not-both, either}
+use mathlib.Core.Path.{_≡_, refl, sym, subst}
+use mathlib.Core.Bool.{Bool, true, false}
+use mathlib.Core.Logic.{_↔_, inl, inr}
+use Rattle.base.specs.Folds.{pick, some, every, firstFrom, first}
+use Rattle.base.proofs.Tests.{no-ft, and-true, or-true, or-false, either}
 
 -- what holds below n and at n holds below n + 1
 pub below-suc : (P : ℕ → Type 0) (n : ℕ) → ((i : ℕ) → i < n → P i) → P n → (i : ℕ) → i < suc n → P i

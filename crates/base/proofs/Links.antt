@@ -1,16 +1,16 @@
 -- What the rounds reach is what a path reaches, in both directions; so the test for a cycle is the test for a path from
 -- a number to itself.
-use Prim.Native.Nat.{ℕ, zero, suc, _+_, _<_, _≤_}
+use Prim.Native.Nat.{ℕ, zero, suc, _<_}
 use native.Mathlib.Nat.{not-suc-le-zero, le-of-suc-le-suc, eq-or-lt-of-le}
-use mathlib.Core.Path.{_≡_, refl, sym, ap, _∙_}
+use mathlib.Core.Path.{_≡_, refl, sym, _∙_}
 use mathlib.Core.Bool.{Bool, true, false, _||_, _&&_}
 use mathlib.Core.Logic.{_↔_, _⊎_, inl, inr}
 use lib.Bits.{bitOr}
-use Rattle.base.specs.Folds.{pick, some}
+use Rattle.base.specs.Folds.{pick}
 use Rattle.base.specs.Sets.{hasBit}
-use Rattle.base.specs.Links.{Path, link, on, through, reach, cyclic}
-use Rattle.base.proofs.Tests.{and-true, or-true, either, refute, not-both}
-use Rattle.base.proofs.Below.{some-true, some-false}
+use Rattle.base.specs.Links.{Path, link, on, reach, cyclic}
+use Rattle.base.proofs.Tests.{and-true, or-true, either, not-both}
+use Rattle.base.proofs.Below.{some-true}
 use Rattle.base.proofs.Bits.{hasBit-or}
 
 through-bit : (q : Bool) (a b j : ℕ) → hasBit (pick q (bitOr a b) a) j ≡ (hasBit a j || (q && hasBit b j))

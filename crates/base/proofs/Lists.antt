@@ -1,8 +1,8 @@
 -- Lists that are given by a function of the place.
 use Prim.Native.Nat.{_<_, suc, zero, ℕ}
-use lib.ListN.{getD, replicate, set}
-use mathlib.Core.List.{List, [], _∷_}
-use mathlib.Core.Path.{_≡_, ap, ap₂, refl}
+use lib.ListN.{getD, length, length-map, replicate, set}
+use mathlib.Core.List.{List, [], _∷_, map}
+use mathlib.Core.Path.{_∙_, _≡_, ap, ap₂, refl, sym}
 use native.Mathlib.Omega.{arith}
 use Rattle.base.specs.Folds.{listed}
 
@@ -25,3 +25,7 @@ pub copies-hold : {A : Type 0} (P : A → Type 0) (n i : ℕ) (a d : A) → P a 
 copies-hold P zero i a d h k = k
 copies-hold P (suc n) zero a d h k = h
 copies-hold P (suc n) (suc i) a d h k = copies-hold P n i a d h k
+
+-- what owning an array of structs tells is said of the values that stand for them: the array is as long
+pub length-mapped : (X Y : Type 0) (f : X → Y) (l : List X) (n : ℕ) → length (map f l) ≡ n → length l ≡ n
+length-mapped X Y f l n p = sym (length-map l f) ∙ p

@@ -1,12 +1,12 @@
 -- Loops that count up to a bound: an invariant for each kind of fold, and the three laws that its proof cites:
 -- it holds at 0, it holds after one more turn, and what it says at the end.
 -- Each premise is a fact that stands in the place's record as it is, so that `search` finds it with no path.
-use Prim.Native.Nat.{ℕ, zero, suc, _+_, _-_, _≤_, _<_}
+use Prim.Native.Nat.{ℕ, suc, _+_, _-_, _≤_, _<_}
 use native.Mathlib.Numerals.{add-one}
 use native.Mathlib.Omega.{arith}
 use mathlib.Core.Path.{_≡_, refl, sym, ap, _∙_}
 use mathlib.Core.Bool.{Bool, true, false, _||_, _&&_}
-use Rattle.base.specs.Folds.{pick, fold, some, every, firstFrom, first}
+use Rattle.base.specs.Folds.{fold, some, every, firstFrom, first}
 
 -- a loop that counts i up to n has b after the steps at the numbers below i
 pub record Folded {A : Type 0} (f : A → ℕ → A) (a : A) (n : ℕ) (b : A) (i : ℕ) : Type 0 where

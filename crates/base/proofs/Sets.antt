@@ -1,5 +1,5 @@
 -- Sets that a loop gathers as bits, and what is asked of them: the laws that turn a test on sets into a test on services.
-use Prim.Native.Nat.{ℕ, zero, suc, _+_, _-_, _*_, _/_, _%_, _^_, _≤_, _<_}
+use Prim.Native.Nat.{ℕ, zero, suc, _+_, _-_, _*_, _/_, _%_, _^_, _<_}
 use native.Mathlib.Nat.{not-suc-le-zero, le-of-suc-le-suc, le-refl, lt-of-le-of-lt, lt-of-lt-of-le, eq-or-lt-of-le, mod-eq-of-lt, mod-one, one-mul, zero-add, zero-mul, add-zero}
 use native.Mathlib.Omega.{arith}
 use mathlib.Core.Path.{_≡_, refl, sym, ap, _∙_}
@@ -7,8 +7,8 @@ use mathlib.Core.Bool.{Bool, true, false, _||_, _&&_, not, false≢true}
 use mathlib.Core.Logic.{_⊎_, inl, inr}
 use lib.Dec.{eqb, eqb·suc-zero}
 use lib.Pow.{pow-pos, pow-mono, pow-lt, mod-pow-add, shl-exact}
-use lib.Bits.{bitAnd, bitOr, and-le-r, or-lt}
-use Rattle.base.specs.Folds.{pick, fold, some, first, firstFrom}
+use lib.Bits.{bitAnd, and-le-r, or-lt}
+use Rattle.base.specs.Folds.{some, first, firstFrom}
 use Rattle.base.specs.Sets.{hasBit, single, kept, overlap, marked, union}
 use Rattle.base.proofs.Tests.{either}
 use Rattle.base.proofs.Below.{some-as, first-as}

@@ -1,10 +1,9 @@
 -- Sums over the numbers below a bound: what one term's fall does to the sum.
-use Prim.Native.Nat.{ℕ, zero, suc, _+_, _*_, _≤_, _<_}
+use Prim.Native.Nat.{ℕ, zero, suc, _*_, _≤_, _<_}
 use native.Mathlib.Nat.{not-suc-le-zero, le-of-suc-le-suc, eq-or-lt-of-le, lt-suc-self, le-step, le-refl, add-le-add, lt-irrefl}
 use native.Mathlib.Omega.{arith}
-use mathlib.Core.Path.{_≡_, refl}
 use mathlib.Core.Logic.{_≢_}
-use Rattle.base.specs.Folds.{fold, sum}
+use Rattle.base.specs.Folds.{sum}
 use Rattle.base.proofs.Tests.{either}
 
 pub sum-le : (v w : ℕ → ℕ) (n : ℕ) → ((i : ℕ) → i < n → v i ≤ w i) → sum v n ≤ sum w n

@@ -1,13 +1,12 @@
 -- Sets in a word of 64 bits: what lies from bit 64 on, and the tests on sets that a rule asks the other way round.
-use Prim.Native.Nat.{ℕ, zero, suc, _*_, _/_, _%_, _^_, _≤_, _<_}
+use Prim.Native.Nat.{ℕ, zero, suc, _*_, _%_, _^_, _≤_, _<_}
 use native.Mathlib.Nat.{lt-of-lt-of-le, div-eq-of-lt}
-use native.Mathlib.Omega.{arith}
 use mathlib.Core.Path.{_≡_, refl, sym, ap, _∙_}
 use mathlib.Core.Bool.{Bool, true, false, not, _&&_, _||_}
 use lib.Dec.{eqb, ltb}
 use lib.Pow.{pow-mono}
 use borrow.Author.Tests.{lt-ltb, le-ltb}
-use Rattle.base.specs.Folds.{pick, implies, fold, some, every}
+use Rattle.base.specs.Folds.{implies, some, every}
 use Rattle.base.specs.Sets.{hasBit, within, single, overlap, marked}
 use Rattle.base.proofs.Bits.{hasBit-small}
 use Rattle.base.proofs.Sets.{shifted-one, marked-overlap}

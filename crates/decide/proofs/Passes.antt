@@ -1,11 +1,10 @@
 -- The two passes: the sets are gathered, then each rule's services, then the choice is made.
 use Prim.Native.Nat.{ℕ, _+_, _<_, _≤_}
 use native.Mathlib.Omega.{arith}
-use mathlib.Core.Path.{_≡_, refl, sym, ap, ap₂, _∙_}
-use mathlib.Core.Bool.{Bool}
+use mathlib.Core.Path.{_≡_, ap, _∙_}
 use lib.Dec.{leb}
 use borrow.Author.Tests.{le-leb, lt-leb}
-use Rattle.base.specs.Folds.{pick, fold}
+use Rattle.base.specs.Folds.{pick}
 use Rattle.base.proofs.Loops.{Folded, folded-none, folded-more, folded-all}
 use Rattle.service.specs.Limits.{maxServices}
 use Rattle.service.specs.declared.Table.{Table}

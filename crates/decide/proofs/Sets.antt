@@ -1,10 +1,9 @@
 -- The tests from the sets are the rules' tests, the sets are those of the services that the rules fit, and the choice from
 -- them is the rules' choice.
-use Prim.Native.Nat.{ℕ, zero, suc, _+_, _<_, _≤_}
-use native.Mathlib.Nat.{le-refl}
+use Prim.Native.Nat.{ℕ, zero, suc, _≤_}
 use native.Mathlib.Omega.{arith}
-use mathlib.Core.Path.{_≡_, refl, sym, ap, ap₂, _∙_}
-use mathlib.Core.Bool.{Bool, true, false, not, _&&_, _||_}
+use mathlib.Core.Path.{_≡_, refl, ap, ap₂, _∙_}
+use mathlib.Core.Bool.{Bool, not, _&&_, _||_}
 use lib.Bits.{bitOr}
 use lib.Dec.{leb, ltb}
 use borrow.Author.Tests.{lt-ltb}
@@ -13,15 +12,15 @@ use Rattle.base.specs.Sets.{hasBit, single, overlap, marked}
 use Rattle.base.proofs.Sets.{marked-overlap, union-kept, marked-first}
 use Rattle.base.proofs.Words.{marked-disjoint}
 use Rattle.service.specs.Settings.{settingsAt}
-use Rattle.service.specs.Records.{recordAt, isDown, isWaiting, isStarting, isUp, isEnding, isNone, isUser, active}
+use Rattle.service.specs.Records.{recordAt, isDown, isWaiting, isUser, active}
 use Rattle.service.specs.declared.Table.{Table}
 use Rattle.service.specs.declared.State.{State}
 use Rattle.rules.specs.declared.Rule.{Rule}
 use Rattle.rules.specs.declared.Rule.the-variants.{Lose, Abandon, Settle, Wake, Release, Begin, End, Expire}
 use Rattle.rules.specs.declared.Choice.{Choice}
 use Rattle.rules.specs.declared.Choice.the-variants.{Fit}
-use Rattle.rules.specs.Dependencies.{hardLinks, strongLinks, allLinks, hard, strong, soft, depends, serving, closing, barred, blocked, needed}
-use Rattle.rules.specs.Rules.{running, nothingToEnd, due, fits, lostToUser, rules, chosenFrom, chosen}
+use Rattle.rules.specs.Dependencies.{hardLinks, strongLinks, allLinks, hard, strong, soft, depends, serving, barred, blocked, needed}
+use Rattle.rules.specs.Rules.{running, fits, lostToUser, chosenFrom, chosen}
 use Rattle.standing.specs.declared.Standing.{Standing}
 use Rattle.standing.specs.Standing.{standing}
 use Rattle.standing.specs.Fitting.{loseBy, abandonBy, settleBy, wakeBy, releaseBy, beginBy, endBy, expireBy}

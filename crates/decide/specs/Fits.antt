@@ -1,5 +1,5 @@
 -- For each rule the set of services that it fits, and the choice from those sets.
-use Prim.Native.Nat.{ℕ, _<_, _≤_}
+use Prim.Native.Nat.{ℕ}
 use mathlib.Core.Bool.{_&&_}
 use lib.Bits.{bitOr}
 use lib.Dec.{ltb}

@@ -2,7 +2,6 @@
 use Prim.Native.Nat.{ℕ}
 use Prim.Native.String.{String}
 use mathlib.Core.Path.{_≡_, refl}
-use mathlib.Core.Bool.{Bool, true, false}
 use mathlib.Core.List.{List, [], _∷_, map}
 use Rattle.base.specs.Folds.{some}
 use Rattle.text.specs.Strings.{bytes, same, indexFrom, partOf}
@@ -15,7 +14,6 @@ use Rattle.value.specs.Values.{faultFrom, marksFrom, sizesFrom, scanOf, written
 use Rattle.word.specs.Words.{flagOf, noOf, kindOf, signalNames, signalOf, nameBytes, isName}
 use Rattle.word.specs.Decimals.{digitOf, readOf, decimalFrom, timeEnd, timeOf, countEnd, countOf}
 use Rattle.word.specs.Properties.{propertyNames, propertyOf, settingOf}
-use Rattle.description.specs.declared.Read.{Read}
 use Rattle.description.specs.Settings.{valueAt, wordAt, known}
 use Rattle.description.specs.Lines.{dependencyRead, wordRead, tokensRead, propertyRead, lineRead}
 use Rattle.description.specs.Texts.{completion, linesRead, textRead}

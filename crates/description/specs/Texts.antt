@@ -1,12 +1,11 @@
 -- "each text in turn: 6 over the whole text, its lines, 13, 14"
 use Prim.Native.Nat.{ℕ, _+_}
-use mathlib.Core.Bool.{Bool, true, false, _||_, _&&_}
+use mathlib.Core.Bool.{_||_, _&&_}
 use mathlib.Core.List.{List, [], _∷_}
 use lib.Dec.{eqb}
 use lib.ListN.{length}
 use Rattle.base.specs.Folds.{pick}
 use Rattle.text.specs.Lines.{fault, linesOf, badFrom}
-use Rattle.text.specs.declared.Fault.{Fault}
 use Rattle.text.specs.declared.Verdict.{Verdict}
 use Rattle.text.specs.declared.Verdict.the-variants.{Good, Bad}
 use Rattle.description.specs.declared.Description.{Description}

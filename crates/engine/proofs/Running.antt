@@ -2,39 +2,31 @@
 use Prim.Native.Nat.{ℕ, _+_, _*_, _≤_, _<_}
 use native.Mathlib.Nat.{eq-or-lt-of-le}
 use native.Mathlib.Numerals.{add-one}
-use native.Mathlib.Omega.{arith}
 use mathlib.Core.Path.{_≡_, refl, sym, ap, _∙_, subst}
-use mathlib.Core.Bool.{Bool, true, false, _&&_}
-use mathlib.Core.List.{List, map}
+use mathlib.Core.Bool.{Bool, true, false}
+use mathlib.Core.List.{List}
 use lib.Dec.{leb}
-use lib.ListN.{set, length, length-set, length-map}
-use borrow.Author.Tests.{le-leb, lt-leb}
-use Rattle.base.specs.Folds.{pick, fold, first}
+use lib.ListN.{set, length, length-set}
+use borrow.Author.Tests.{le-leb}
+use Rattle.base.specs.Folds.{first}
 use Rattle.base.proofs.Tests.{and-true, either, not-both}
-use Rattle.base.proofs.Below.{Lowest, Sought, found, nowhere, sought}
+use Rattle.base.proofs.Below.{Sought, found, nowhere, sought}
 use Rattle.base.proofs.Loops.{Passed, passed-none, passed-more, passed-hit, passed-all}
 use Rattle.service.specs.Limits.{maxServices}
 use Rattle.service.specs.Numbers.{isQuiet, actionService, actionNumber}
-use Rattle.service.specs.declared.Action.{Action}
-use Rattle.service.specs.declared.RunAnswer.the-variants.{Ran as RanTo, Refused}
-use Rattle.service.specs.declared.Refusal.the-variants.{NoRoom, IllFormed}
+use Rattle.service.specs.declared.RunAnswer.the-variants.{Ran as RanTo}
 use Rattle.service.specs.declared.Ran.{Ran}
 use Rattle.service.specs.declared.Table.{Table}
 use Rattle.service.specs.declared.State.{State}
 use Rattle.service.specs.declared.Step.{Step}
-use Rattle.service.proofs.States.{Sized}
 use Rattle.rules.specs.WellFormed.{formed}
 use Rattle.rules.specs.Rules.{nextAction}
 use Rattle.rules.specs.Runs.{stateAfter, actionAfter, stepsToQuiet, written, writtenServices, writtenActions}
-use Rattle.rules.specs.Calls.{Outcome, run, check, outcome, ranOutcome}
+use Rattle.rules.specs.Calls.{run, check, outcome, ranOutcome}
 use Rattle.rules.proofs.Formed.{formed-next, formed-sound, sound-next}
 use Rattle.rules.proofs.Runs.{steps-within}
 use Rattle.rules.proofs.Resting.{rests-everywhere}
 use Rattle.engine.specs.Quiet.{restedWithin, RanWhole}
-
--- what owning an array of records tells is said of the records' values
-pub length-mapped : (X Y : Type 0) (f : X → Y) (l : List X) (n : ℕ) → length (map f l) ≡ n → length l ≡ n
-length-mapped X Y f l n p = sym (length-map l f) ∙ p
 
 -- the loop has handed out k actions, m is its limit, and y the state then
 pub record Running (t : Table) (x : State) (s a : List ℕ) (m : ℕ) (s′ a′ : List ℕ) (y : State) (k : ℕ) : Type 0 where

@@ -1,6 +1,6 @@
 -- One step: what the decision says is what the rules choose, and what it leaves and hands out is theirs.
 use Prim.Native.Nat.{ℕ, _≤_, _<_}
-use mathlib.Core.Path.{_≡_, refl, sym, ap, ap₂, _∙_, subst}
+use mathlib.Core.Path.{_≡_, refl, sym, ap, _∙_, subst}
 use mathlib.Core.Bool.{Bool, true}
 use lib.Dec.{leb}
 use borrow.Author.Tests.{le-leb}
@@ -17,11 +17,10 @@ use Rattle.service.specs.declared.State.{State}
 use Rattle.service.specs.declared.Step.{Step}
 use Rattle.rules.specs.declared.Rule.{Rule}
 use Rattle.rules.specs.declared.Rule.the-variants.{Lose, Abandon, Settle, Wake, Release, Begin, End, Expire}
-use Rattle.rules.specs.declared.Choice.{Choice}
 use Rattle.rules.specs.declared.Choice.the-variants.{Quiet as NoRule, Fit}
 use Rattle.rules.specs.WellFormed.{formed}
 use Rattle.rules.specs.Rules.{lostToUser, leaves, hands, chosen, act, actOn, nextAction}
-use Rattle.rules.proofs.Next.{Chosen, rule, no-rule, chosen-is}
+use Rattle.rules.proofs.Next.{Chosen, rule, chosen-is}
 use Rattle.settling.specs.Sound.{sound}
 use Rattle.settling.proofs.Formed.{few, sound-at}
 use Rattle.decide.specs.declared.Decision.{Decision}

@@ -1,6 +1,6 @@
 -- What an accepted event gives back is its outcome, and so is what a refused stop does. Each premise is what the code has: q of list 24, and the state y.
 use Prim.Native.Nat.{ℕ, _≤_, _<_}
-use mathlib.Core.Path.{_≡_, refl, sym, ap, _∙_}
+use mathlib.Core.Path.{_≡_, sym, ap, _∙_}
 use mathlib.Core.Bool.{Bool, true, false, _&&_, _||_}
 use lib.Dec.{leb, ltb, eqb}
 use borrow.Author.Tests.{le-leb, lt-ltb, le-ltb}
@@ -19,7 +19,7 @@ use Rattle.service.specs.declared.Refusal.the-variants.{IllFormed, NoService}
 use Rattle.rules.specs.Dependencies.{allLinks}
 use Rattle.rules.specs.WellFormed.{formed}
 use Rattle.rules.specs.Events.{each, startReaches, startedAs, afterStart, stopped, afterStop, afterStopAll, endedAs, afterEnd, afterClock}
-use Rattle.rules.specs.Calls.{Call, start, stop, stopAll, end, clock, check, outcome, changedOutcome}
+use Rattle.rules.specs.Calls.{start, stop, stopAll, end, clock, check, outcome, changedOutcome}
 use Rattle.settling.specs.Sound.{sound}
 use Rattle.settling.proofs.Formed.{few, sound-at}
 

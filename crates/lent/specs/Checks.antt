@@ -1,8 +1,8 @@
 -- The names (3, 4) and the sizes (5) of a set, whose names and texts are given by service.
 use Prim.Native.Nat.{ℕ, zero, suc, _+_}
-use mathlib.Core.Bool.{Bool, true, false, _||_}
+use mathlib.Core.Bool.{_||_}
 use mathlib.Core.List.{List}
-use lib.Dec.{leb, ltb}
+use lib.Dec.{ltb}
 use lib.ListN.{length}
 use Rattle.base.specs.Folds.{pick, first}
 use Rattle.text.specs.Strings.{same}

@@ -2,9 +2,9 @@
 use Prim.Native.Nat.{_+_, _-_, _<_, _^_, _≤_, suc, zero, ℕ}
 use borrow.Author.Tests.{le-leb, le-ltb, lt-leb, lt-ltb}
 use lib.Dec.{leb, ltb}
-use lib.ListN.{List·getD-eq-default, getD, length, length-map, replicate, set}
+use lib.ListN.{List·getD-eq-default, getD, length, replicate, set}
 use mathlib.Core.Bool.{Bool, _&&_, false, true}
-use mathlib.Core.List.{List, map}
+use mathlib.Core.List.{List, []}
 use mathlib.Core.Path.{_∙_, _≡_, ap, refl, sym}
 use native.Mathlib.Omega.{arith}
 use Rattle.base.specs.Folds.{pick}
@@ -71,13 +71,12 @@ module _ (name : ℕ → List ℕ) (n : ℕ) (text : List ℕ) (d : Description)
     unfolding linksFrom
     links-absent s = rw (more, ← found-as, le-ltb i n s, ← is)
 
--- a list of values is as long as the list of what stands for them in the store
-pub length-mapped : (X Y : Type 0) (f : X → Y) (l : List X) (n : ℕ) → length (map f l) ≡ n → length l ≡ n
-length-mapped X Y f l n p = sym (length-map l f) ∙ p
+-- what an array of descriptions is read as past its end, and that a place of the array has a description
+abbrev pub past : Description
+past = record { values = []; count = 0; dependencies = [] }
 
--- a place of the array has a description, whatever stands for one past its end
-pub description-in : (ds : List Description) (j : ℕ) (d : Description) → length ds ≡ maxServices → j < maxServices → getD ds j d ≡ descriptionAt ds j
-description-in ds j d e h = getD-default ds j d blank (rw e h)
+pub description-in : (ds : List Description) (j : ℕ) → length ds ≡ maxServices → j < maxServices → getD ds j past ≡ descriptionAt ds j
+description-in ds j e h = getD-default ds j past blank (rw e h)
 
 -- ---- the services of a set; t is the text of service j, d its description, r what the code made of its dependencies
 

@@ -2,7 +2,7 @@
 use Prim.Native.Nat.{ℕ, _+_}
 use Prim.Native.String.{String}
 use mathlib.Core.Path.{_≡_, refl}
-use mathlib.Core.Bool.{Bool, true, false}
+use mathlib.Core.Bool.{true, false}
 use mathlib.Core.List.{List, [], _∷_, _++_, map}
 use lib.ListN.{length, replicate}
 use Rattle.base.specs.Folds.{some, first}
@@ -30,7 +30,7 @@ use Rattle.lent.specs.Parts.{risesTo, positioned, nameStart, nameAt, textAt}
 use Rattle.lent.specs.Checks.{find, namesFrom, sizesFrom}
 use Rattle.loader.specs.Texts.{descriptionsFrom}
 use Rattle.linking.specs.Links.{linksFrom, servicesFrom, lowestCyclic}
-use Rattle.storing.specs.Tokens.{commandBytes, commandCount, bytesFrom, noCommands, commandsFrom}
+use Rattle.storing.specs.Tokens.{commandBytes, commandCount, bytesFrom, commandsFrom}
 use Rattle.loader.specs.Load.{Outcome, stored, acyclic, loadSet, load}
 
 -- a service's name and text

@@ -1,20 +1,18 @@
 -- The load, whole: "Order: 1; 2; all names, 3 then 4 each; all texts, 5; then each text in turn ..; then 15 by service
 -- and line; 16; 25."
 use Prim.Native.Nat.{ℕ}
-use mathlib.Core.Bool.{Bool, true, false}
-use mathlib.Core.List.{List, []}
-use lib.Dec.{leb, ltb}
+use mathlib.Core.Bool.{Bool}
+use mathlib.Core.List.{List}
+use lib.Dec.{leb}
 use lib.ListN.{length, replicate}
 use lib.Seq.{sets}
 use Rattle.base.specs.Folds.{pick}
 use Rattle.service.specs.Limits.{maxServices}
 use Rattle.service.specs.Settings.{defaultSettings, noServices}
 use Rattle.service.specs.declared.Settings.{Settings}
-use Rattle.service.specs.declared.Table.{Table}
 use Rattle.description.specs.declared.Description.{Description}
 use Rattle.lent.specs.declared.Answer.{Answer}
 use Rattle.lent.specs.declared.Answer.the-variants.{Accepted, Refused}
-use Rattle.storing.specs.declared.Commands.{Commands}
 use Rattle.loader.specs.declared.Descriptions.{Descriptions}
 use Rattle.linking.specs.declared.Services.{Services}
 use Rattle.loader.specs.declared.Loaded.{Loaded}

@@ -1,8 +1,7 @@
 -- The loop of the query: list 24 has passed, and d is the earliest time of the services below i.
 use Prim.Native.Nat.{ℕ, _+_, _≤_, _<_}
-use mathlib.Core.Path.{_≡_, refl, sym, ap, _∙_}
+use mathlib.Core.Path.{_≡_, sym, _∙_}
 use mathlib.Core.Bool.{Bool, true}
-use Rattle.base.specs.Folds.{fold}
 use Rattle.base.proofs.Loops.{Folded, folded-none, folded-more, folded-all}
 use Rattle.service.specs.Limits.{maxServices}
 use Rattle.service.specs.declared.Deadline.{Deadline}

@@ -1,13 +1,12 @@
 -- Peeling: what is safe is on no cycle, and each turn keeps its set safe.
-use Prim.Native.Nat.{ℕ, zero, suc, _+_, _≤_, _<_}
+use Prim.Native.Nat.{ℕ, _+_, _≤_, _<_}
 use native.Mathlib.Nat.{not-suc-le-zero, eq-or-lt-of-le}
 use native.Mathlib.Omega.{arith}
 use mathlib.Core.Path.{_≡_, refl, sym, ap, _∙_, subst}
 use mathlib.Core.Bool.{Bool, true, false, _&&_, false≢true}
 use mathlib.Core.List.{List}
 use lib.Dec.{leb}
-use borrow.Author.Tests.{eqb-true, le-leb}
-use Rattle.base.specs.Folds.{some}
+use borrow.Author.Tests.{eqb-true}
 use Rattle.base.specs.Sets.{hasBit, single}
 use Rattle.base.specs.Links.{Path, link, on, reach, cyclic}
 use Rattle.base.proofs.Tests.{and-true, or-true, either, refute, no-ft}

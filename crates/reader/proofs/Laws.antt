@@ -1,8 +1,8 @@
 -- The laws of the lines of a text as the loop reads them.
 use native.Mathlib.Omega.{arith}
 use mathlib.Core.Path.{_≡_, refl, sym, ap, _∙_}
-use mathlib.Core.Bool.{Bool, true, false}
-use mathlib.Core.List.{List, [], _∷_}
+use mathlib.Core.Bool.{true}
+use mathlib.Core.List.{List}
 use Prim.Native.Nat.{ℕ, _+_, _≤_, _<_}
 use lib.ListN.{length, drop, drop-of-length-le}
 use Rattle.base.proofs.Tests.{no-ft}
@@ -15,7 +15,7 @@ use Rattle.description.specs.declared.Description.{Description}
 use Rattle.description.specs.declared.Effect.{Effect}
 use Rattle.description.specs.declared.Effect.the-variants.{Nothing, Setting, Dependency}
 use Rattle.description.specs.declared.Line.{Line}
-use Rattle.description.specs.declared.Line.the-variants.{Good, Bad}
+use Rattle.description.specs.declared.Line.the-variants.{Good}
 use Rattle.description.specs.Settings.{affected}
 use Rattle.description.specs.Lines.{isSilent, openingRead, lineRead}
 use Rattle.description.specs.Texts.{readAs, readOn, completion, linesRead}

@@ -1,6 +1,6 @@
 -- The calls: what each gives back, its refusals in the order of checks, and the state after a list of them.
 use Prim.Native.Nat.{ℕ, _*_}
-use mathlib.Core.Bool.{Bool, true, false, _&&_}
+use mathlib.Core.Bool.{Bool, _&&_}
 use mathlib.Core.List.{List, [], _∷_}
 use lib.Dec.{leb, ltb}
 use lib.ListN.{length}
@@ -9,7 +9,6 @@ use Rattle.service.specs.declared.Deadline.{Deadline}
 use Rattle.service.specs.declared.Action.{Action}
 use Rattle.service.specs.declared.State.{State}
 use Rattle.service.specs.declared.Table.{Table}
-use Rattle.service.specs.declared.Step.{Step}
 use Rattle.service.specs.declared.EventAnswer.{EventAnswer}
 use Rattle.service.specs.declared.EventAnswer.the-variants.{Done, Refused as EventRefused}
 use Rattle.service.specs.declared.ActionAnswer.{ActionAnswer}

@@ -1,5 +1,5 @@
 -- Demand 3, one statement over every list of calls. What it rests on is listed at the end of this file.
-use Prim.Native.Nat.{ℕ, zero, suc, _+_, _*_, _≤_, _<_}
+use Prim.Native.Nat.{ℕ, suc, _+_, _*_, _≤_, _<_}
 use mathlib.Core.Logic.{_≢_}
 use mathlib.Core.Path.{_≡_}
 use mathlib.Core.Bool.{Bool, true, false, not, _&&_, _||_}
@@ -17,7 +17,7 @@ use Rattle.service.specs.declared.Table.{Table}
 use Rattle.service.specs.Limits.{maxServices}
 use Rattle.service.specs.Settings.{settingsAt}
 use Rattle.service.specs.Records.{recordAt, freshState, isEnding}
-use Rattle.service.specs.Numbers.{isQuiet, actionOf}
+use Rattle.service.specs.Numbers.{actionOf}
 use Rattle.rules.specs.declared.Rule.the-variants.{Lose, Abandon, Settle, Wake, Release, Begin, End, Expire}
 use Rattle.rules.specs.declared.Choice.{Choice}
 use Rattle.rules.specs.declared.Choice.the-variants.{Quiet as NoRule, Fit}
@@ -25,7 +25,7 @@ use Rattle.rules.specs.Dependencies.{hardLinks}
 use Rattle.rules.specs.WellFormed.{tableFormed, formed}
 use Rattle.rules.specs.Rules.{chosen}
 use Rattle.rules.specs.Runs.{stateAfter, actionAfter}
-use Rattle.rules.specs.Calls.{Call, start, stop, clock, end, stopAll, next, query, run, Answer, refused, done, acted, ran, told, Outcome, outcome, afterCalls}
+use Rattle.rules.specs.Calls.{Call, start, stop, clock, end, stopAll, next, query, run, Answer, refused, done, acted, ran, told, outcome, afterCalls}
 
 -- ---- the calls with their answers, in order
 

@@ -1,6 +1,6 @@
 -- "The service record": who depends on whom, and what a service's record says to the others.
 use Prim.Native.Nat.{ℕ}
-use mathlib.Core.Bool.{Bool, true, false, not, _&&_, _||_}
+use mathlib.Core.Bool.{Bool, not, _&&_, _||_}
 use lib.Bits.{bitOr}
 use Rattle.base.specs.Folds.{some}
 use Rattle.base.specs.Sets.{hasBit}

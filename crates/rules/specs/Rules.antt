@@ -10,8 +10,7 @@ use Rattle.service.specs.declared.Signal.{Signal as SignalName}
 use Rattle.service.specs.declared.Signal.the-variants.{None as NoSignal, Hup, Int, Term, Quit, Usr1, Usr2, Kill}
 use Rattle.service.specs.declared.Phase.{Phase}
 use Rattle.service.specs.declared.Phase.the-variants.{Down, Waiting, Starting, Up, Ending}
-use Rattle.service.specs.declared.Cause.{Cause}
-use Rattle.service.specs.declared.Cause.the-variants.{None as NoCause, User, Released, Fell, Failed}
+use Rattle.service.specs.declared.Cause.the-variants.{User, Released, Fell, Failed}
 use Rattle.service.specs.declared.Deadline.{Deadline}
 use Rattle.service.specs.declared.Deadline.the-variants.{None as NoDeadline, At}
 use Rattle.service.specs.declared.Action.{Action}

@@ -1,6 +1,5 @@
 -- A run to quiet, and the query.
 use Prim.Native.Nat.{ℕ, _*_}
-use mathlib.Core.Bool.{Bool, true, false}
 use mathlib.Core.List.{List}
 use lib.Dec.{leb, ltb}
 use lib.ListN.{set}
@@ -8,10 +7,8 @@ use Rattle.base.specs.Folds.{pick, fold, first}
 use Rattle.service.specs.declared.Deadline.{Deadline}
 use Rattle.service.specs.declared.Deadline.the-variants.{None as NoDeadline, At}
 use Rattle.service.specs.declared.Action.{Action}
-use Rattle.service.specs.declared.Record.{Record}
 use Rattle.service.specs.declared.State.{State}
 use Rattle.service.specs.declared.Table.{Table}
-use Rattle.service.specs.declared.Step.{Step}
 use Rattle.service.specs.Records.{recordAt}
 use Rattle.service.specs.Numbers.{isQuiet, actionService, actionNumber}
 use Rattle.rules.specs.Rules.{nextAction}

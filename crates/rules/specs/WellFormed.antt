@@ -1,6 +1,6 @@
 -- List 24: when a table and a state are well formed. Records past the last service are not read.
 use Prim.Native.Nat.{ℕ}
-use mathlib.Core.Bool.{Bool, true, false, not, _&&_}
+use mathlib.Core.Bool.{Bool, true, not, _&&_}
 use lib.Dec.{leb}
 use Rattle.base.specs.Folds.{implies, every}
 use Rattle.base.specs.Sets.{within}

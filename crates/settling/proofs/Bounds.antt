@@ -1,14 +1,12 @@
 -- The test `sound` as facts, and what a count picked from two is bounded by.
-use Prim.Native.Nat.{ℕ, _≤_}
-use mathlib.Core.Path.{_≡_, refl, sym, _∙_}
-use mathlib.Core.Bool.{Bool, true, false, _&&_}
-use lib.Dec.{leb}
+use Prim.Native.Nat.{ℕ}
+use mathlib.Core.Path.{_≡_, sym, _∙_}
+use mathlib.Core.Bool.{Bool, true}
 use borrow.Author.Tests.{leb-true}
 use Rattle.base.proofs.Tests.{tests}
 use Rattle.service.specs.declared.Settings.{Settings}
 use Rattle.service.specs.declared.Record.{Record}
 use Rattle.service.specs.Limits.{longestTime, maxCount, lastClock}
-use Rattle.rules.specs.WellFormed.{settingsInRange, deadlineInRange, timesInRange}
 use Rattle.settling.specs.Sound.{sound, Sound}
 
 -- q is what the code computed of the test

@@ -1,12 +1,12 @@
 -- What list 24 gives to a call that has passed it: few services, and at each of them times in range.
 use Prim.Native.Nat.{ℕ, _≤_, _<_}
-use mathlib.Core.Path.{_≡_, refl, sym, _∙_}
+use mathlib.Core.Path.{_≡_, sym, _∙_}
 use mathlib.Core.Bool.{Bool, true, _&&_, not}
 use lib.Dec.{leb}
 use borrow.Author.Tests.{leb-true}
 use Rattle.base.specs.Folds.{every}
 use Rattle.base.specs.Links.{cyclic}
-use Rattle.base.proofs.Tests.{and-true, tests}
+use Rattle.base.proofs.Tests.{and-true}
 use Rattle.base.proofs.Below.{every-true}
 use Rattle.service.specs.Limits.{maxServices, lastClock}
 use Rattle.service.specs.Settings.{settingsAt}

@@ -1,5 +1,4 @@
 // The tokens of one command: how many they are, how much room they take in the lent buffer, and writing them there.
-use description::Description;
 use description::value_at;
 use value::Scan;
 use value::scan_value;

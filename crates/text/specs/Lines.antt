@@ -1,6 +1,6 @@
 -- "Reading a text": the lines, how a line begins, the first bad byte, and the line of an offset.
 use Prim.Native.Nat.{ℕ, _+_}
-use mathlib.Core.Bool.{Bool, true, false, not, _||_}
+use mathlib.Core.Bool.{Bool, _||_}
 use mathlib.Core.List.{List, [], _∷_}
 use lib.Dec.{eqb, leb}
 use lib.ListN.{length, getD, drop}
@@ -10,7 +10,6 @@ use Rattle.text.specs.Bytes.{isWhite, isNewline, isBad, isPropertyByte, 
 use Rattle.text.specs.declared.Fault.{Fault}
 use Rattle.text.specs.declared.Verdict.{Verdict}
 use Rattle.text.specs.declared.Verdict.the-variants.{Good, Bad}
-use Rattle.text.specs.declared.Places.{Places}
 use Rattle.text.specs.declared.Opening.{Opening}
 use Rattle.text.specs.declared.Opening.the-variants.{Nothing, Named, Bad as BadOpening}
 

@@ -1,6 +1,6 @@
 -- Byte strings: the bytes of a text in quotes, equality as a test, the place among a list of strings, a part.
 use Prim.Native.Nat.{ℕ, _+_, _-_}
-use Prim.Native.Char.{Char, code}
+use Prim.Native.Char.{code}
 use Prim.Native.String.{String, [] as end, _∷_ as then}
 use mathlib.Core.Bool.{Bool, true, false, _&&_}
 use mathlib.Core.List.{List, [], _∷_}

@@ -1,6 +1,6 @@
 -- "Value": what each byte of a value does, by where the reader is.
 use Prim.Native.Nat.{ℕ}
-use mathlib.Core.Bool.{Bool, true, false, not}
+use mathlib.Core.Bool.{Bool, true, false}
 use lib.Dec.{eqb}
 use Rattle.base.specs.Folds.{pick}
 use Rattle.text.specs.Bytes.{isWhite}

@@ -1,6 +1,6 @@
 -- "Value", "Commands are lists of tokens": the first fault of a value, its tokens, and what is told of them.
 use Prim.Native.Nat.{ℕ, zero, suc, _+_, _-_}
-use mathlib.Core.Bool.{Bool, true, false, _&&_}
+use mathlib.Core.Bool.{Bool, _&&_}
 use mathlib.Core.List.{List, [], _∷_, map}
 use lib.Dec.{eqb, leb, ltb}
 use Rattle.base.specs.Folds.{pick}

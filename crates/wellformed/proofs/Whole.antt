@@ -1,7 +1,7 @@
 -- What the code finds, service by service and of the rows, is list 24.
 use Prim.Native.Nat.{ℕ, zero, suc, _≤_, _<_}
 use native.Mathlib.Omega.{arith}
-use mathlib.Core.Path.{_≡_, refl, sym, ap, _∙_}
+use mathlib.Core.Path.{_≡_, refl, ap, _∙_}
 use mathlib.Core.Bool.{Bool, true, false, not, _&&_}
 use mathlib.Core.List.{List}
 use lib.Dec.{leb, ltb}
@@ -9,7 +9,6 @@ use borrow.Author.Tests.{le-leb, lt-leb, ltb-true}
 use Rattle.base.specs.Folds.{pick, every}
 use Rattle.base.specs.Links.{reach, cyclic}
 use Rattle.base.proofs.Filled.{Filled}
-use Rattle.base.proofs.Tests.{either, or-not}
 use Rattle.reach.specs.Rows.{rowsAs, mostRows}
 use Rattle.reach.proofs.Rounds.{reach-as, cyclic-as}
 use Rattle.service.specs.Limits.{maxServices, lastClock}
@@ -18,7 +17,7 @@ use Rattle.service.specs.Records.{recordAt}
 use Rattle.service.specs.declared.Table.{Table}
 use Rattle.service.specs.declared.State.{State}
 use Rattle.rules.specs.Dependencies.{allLinks}
-use Rattle.rules.specs.WellFormed.{linksInside, settingsInRange, timesInRange, shaped, shapedAt, tableFormed, stateFormed, formed}
+use Rattle.rules.specs.WellFormed.{linksInside, settingsInRange, timesInRange, shapedAt, tableFormed, stateFormed, formed}
 use Rattle.wellformed.specs.Place.{placeFormed}
 
 -- two tests at every number below n, at once or one after the other

@@ -1,7 +1,7 @@
 -- Numbers of digits, and the laws of a decimal number as the loop reads it.
-use mathlib.Core.Path.{_≡_, refl, sym, _∙_}
+use mathlib.Core.Path.{_≡_}
 use mathlib.Core.List.{List}
-use mathlib.Core.Bool.{Bool, true, false}
+use mathlib.Core.Bool.{true}
 use Prim.Native.Nat.{ℕ, suc, _+_, _-_, _*_, _^_, _≤_, _<_}
 use native.Mathlib.Nat.{pow-suc, pow-le-pow-right, lt-of-lt-of-le, lt-of-le-of-lt, mul-le-mul-left}
 use native.Mathlib.Numerals.{add-one}

@@ -1,5 +1,4 @@
 -- The worked examples of times in paper 01, and readings of other words beside them: one table, one statement.
-use Prim.Native.Nat.{ℕ}
 use Prim.Native.String.{String}
 use mathlib.Core.Path.{_≡_, refl}
 use mathlib.Core.List.{List, [], _∷_, map}

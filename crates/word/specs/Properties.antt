@@ -1,12 +1,11 @@
 -- The 14 properties of paper 01, by number in its order: their names, defaults and rules.
 use Prim.Native.Nat.{ℕ}
-use mathlib.Core.Bool.{Bool, true, false, _||_, _&&_}
+use mathlib.Core.Bool.{Bool, _||_, _&&_}
 use mathlib.Core.List.{List, [], _∷_, map}
-use lib.Dec.{eqb, leb, ltb}
+use lib.Dec.{eqb, leb}
 use Rattle.base.specs.Folds.{pick}
 use Rattle.text.specs.Strings.{bytes, indexFrom}
 use Rattle.word.specs.declared.Setting.{Setting}
-use Rattle.word.specs.declared.Setting.the-variants.{Value, Bad}
 use Rattle.word.specs.Words.{flagOf, noOf, kindOf, signalOf}
 use Rattle.word.specs.Decimals.{timeOf, countOf}
 

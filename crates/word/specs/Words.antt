@@ -1,8 +1,8 @@
 -- "Yes or no", types and signals, and names of services (number 3).
-use Prim.Native.Nat.{ℕ, _+_}
-use mathlib.Core.Bool.{Bool, true, false, _||_, _&&_}
+use Prim.Native.Nat.{ℕ}
+use mathlib.Core.Bool.{Bool, true, false, _&&_}
 use mathlib.Core.List.{List, [], _∷_, map}
-use lib.Dec.{eqb, leb, ltb}
+use lib.Dec.{leb, ltb}
 use lib.ListN.{length}
 use Rattle.base.specs.Folds.{pick}
 use Rattle.text.specs.Strings.{bytes, same, indexFrom}

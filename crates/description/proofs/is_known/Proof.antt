@@ -1,5 +1,4 @@
 -- `is_known` meets its contract: a loop over the places of dependencies.
-use mathlib.Core.Path.{_≡_, refl, ap, _∙_}
 use Prim.Native.Nat.{_-_}
 use Rattle.base.proofs.Loops.{Some, folded-none, some-more, some-all}
 use Rattle.description.specs.Settings.{dependencyAt, isDependency, known}

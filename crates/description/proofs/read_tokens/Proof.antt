@@ -1,5 +1,5 @@
 -- `read_tokens` meets its contract: a word is handed on from the buffer that it was written to.
-use mathlib.Core.Path.{_≡_, sym, ap, _∙_}
+use mathlib.Core.Path.{ap, _∙_}
 use mathlib.Core.List.{List}
 use Prim.Native.Nat.{ℕ}
 use denote.Ref.{now}

@@ -1,7 +1,6 @@
 -- `read_word_line` meets its contract.
-use mathlib.Core.Path.{sym, ap, _∙_}
-use Rattle.description.specs.Lines.{settingRead, wordRead}
-use Rattle.word.specs.declared.Setting.{Setting}
+use mathlib.Core.Path.{sym, _∙_}
+use Rattle.description.specs.Lines.{wordRead}
 use borrow.Author.Needs.{needs}
 use Rattle.description.proofs.read_word_line.Statement.{statement}
 use Rattle.description.proofs.read_word_line.Tie as tie

@@ -1,9 +1,10 @@
 -- `run` meets its contract: k actions are handed out.
 use borrow.Author.Needs.{needs}
 use Prim.Native.Nat.{_-_}
-use mathlib.Core.Path.{_≡_, refl, sym, _∙_}
+use mathlib.Core.Path.{_≡_, refl}
 use lib.ListN.{length}
-use Rattle.engine.proofs.Running.{Running, length-mapped, running-none, running-more, running-quiet, running-all}
+use Rattle.base.proofs.Lists.{length-mapped}
+use Rattle.engine.proofs.Running.{Running, running-none, running-more, running-quiet, running-all}
 use Rattle.engine.proofs.run.Statement.{statement}
 use Rattle.engine.proofs.run.Tie as tie
 

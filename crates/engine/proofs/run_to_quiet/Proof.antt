@@ -1,11 +1,12 @@
 -- `run_to_quiet` meets its contract: the checks in order, then the run.
 use Prim.Native.Nat.{_-_}
-use mathlib.Core.Path.{_≡_, refl, sym, _∙_}
+use mathlib.Core.Path.{_≡_, sym, _∙_}
 use lib.ListN.{length}
 use borrow.Author.Tests.{le-leb, lt-leb}
 use Rattle.rules.specs.Calls.{check, outcome}
 use Rattle.settling.proofs.Formed.{formed-few}
-use Rattle.engine.proofs.Running.{length-mapped, run-done, run-rested}
+use Rattle.base.proofs.Lists.{length-mapped}
+use Rattle.engine.proofs.Running.{run-done, run-rested}
 use borrow.Author.Needs.{needs}
 use Rattle.engine.proofs.run_to_quiet.Statement.{statement}
 use Rattle.engine.proofs.run_to_quiet.Tie as tie

@@ -1,5 +1,5 @@
 -- `clock` meets its contract: the checks in order, then the state.
-use borrow.Author.Tests.{lt-ltb, le-ltb, le-leb, lt-leb}
+use borrow.Author.Tests.{le-leb, lt-leb}
 use Rattle.rules.specs.Calls.{check, outcome}
 use Rattle.events.proofs.Accepted.{clock-done}
 use borrow.Author.Needs.{needs}

@@ -1,5 +1,5 @@
 -- `end` meets its contract: the checks in order, then the state.
-use borrow.Author.Tests.{lt-ltb, le-ltb, le-leb, lt-leb}
+use borrow.Author.Tests.{lt-ltb, le-ltb}
 use Rattle.service.specs.Settings.{settingsAt}
 use Rattle.service.specs.Records.{recordAt, withRecord}
 use Rattle.rules.specs.Calls.{check, outcome}

@@ -1,5 +1,5 @@
 -- `start` meets its contract: the checks in order, then the state.
-use borrow.Author.Tests.{lt-ltb, le-ltb, le-leb, lt-leb}
+use borrow.Author.Tests.{le-ltb}
 use Rattle.rules.specs.Calls.{check, outcome}
 use Rattle.settling.proofs.Formed.{formed-few}
 use Rattle.events.proofs.Accepted.{start-done}

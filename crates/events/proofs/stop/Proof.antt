@@ -1,7 +1,6 @@
 -- `stop` meets its contract: the checks in order, then the state.
 use Prim.Native.Nat.{_≤_}
 use Rattle.service.specs.Limits.{maxServices}
-use Rattle.service.specs.Settings.{settingsAt}
 use Rattle.service.specs.Records.{recordAt, withRecord}
 use Rattle.settling.proofs.Formed.{formed-few}
 use Rattle.events.proofs.Accepted.{stop-done, stop-absent, stop-ill}

@@ -1,11 +1,10 @@
 -- `check_names` meets its contract: what is left of the names.
-use Prim.Native.Nat.{_+_, _-_, _≤_}
+use Prim.Native.Nat.{_-_, _≤_}
 use native.Mathlib.Omega.{arith}
-use mathlib.Core.Path.{_≡_, refl, sym, _∙_}
+use mathlib.Core.Path.{_≡_, sym, _∙_}
 use Rattle.lent.specs.Parts.{nameAt}
 use Rattle.lent.specs.Checks.{namesFrom}
 use Rattle.lent.proofs.Laws.{names-end, names-bad, names-twice, names-good}
-use denote.Ref.{now}
 use borrow.Author.Needs.{needs}
 use Rattle.lent.proofs.check_names.Statement.{statement}
 use Rattle.lent.proofs.check_names.Tie as tie

@@ -1,11 +1,10 @@
 -- `check_sizes` meets its contract: what is left of the texts, with the total before them.
-use Prim.Native.Nat.{_+_, _-_, _≤_}
+use Prim.Native.Nat.{_-_, _≤_}
 use native.Mathlib.Omega.{arith}
-use mathlib.Core.Path.{_≡_, refl, sym, _∙_}
+use mathlib.Core.Path.{_≡_, sym, _∙_}
 use Rattle.lent.specs.Parts.{textAt}
 use Rattle.lent.specs.Checks.{longestTexts, sizesFrom}
 use Rattle.lent.proofs.Laws.{sizes-end, sizes-long, sizes-many, sizes-fit}
-use denote.Ref.{now}
 use borrow.Author.Needs.{needs}
 use Rattle.lent.proofs.check_sizes.Statement.{statement}
 use Rattle.lent.proofs.check_sizes.Tie as tie

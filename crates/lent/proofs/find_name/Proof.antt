@@ -5,7 +5,6 @@ use Rattle.base.proofs.Loops.{Passed, passed-none, passed-more, passed-hit, pas
 use Rattle.text.specs.Strings.{same}
 use Rattle.lent.specs.Parts.{nameAt}
 use Rattle.lent.specs.Checks.{find}
-use denote.Ref.{now}
 use borrow.Author.Needs.{needs}
 use Rattle.lent.proofs.find_name.Statement.{statement}
 use Rattle.lent.proofs.find_name.Tie as tie

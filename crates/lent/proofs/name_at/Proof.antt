@@ -1,5 +1,5 @@
 -- `name_at` meets its contract.
-use mathlib.Core.Path.{sym, _∙_}
+use mathlib.Core.Path.{_∙_}
 use Rattle.lent.specs.Parts.{nameAt}
 use Rattle.lent.proofs.Laws.{past-last}
 use denote.Ref.{now}

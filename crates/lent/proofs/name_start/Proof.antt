@@ -2,7 +2,6 @@
 use mathlib.Core.Path.{_∙_}
 use borrow.Author.Tests.{eq-eqb, ne-eqb}
 use Rattle.lent.specs.Parts.{nameStart}
-use denote.Ref.{now}
 use borrow.Author.Needs.{needs}
 use Rattle.lent.proofs.name_start.Statement.{statement}
 use Rattle.lent.proofs.name_start.Tie as tie

@@ -1,5 +1,4 @@
 -- `refused_in` meets its contract.
-use mathlib.Core.Path.{_∙_, refl}
 use borrow.Author.Needs.{needs}
 use Rattle.lent.proofs.refused_in.Statement.{statement}
 use Rattle.lent.proofs.refused_in.Tie as tie

@@ -1,7 +1,5 @@
 -- `text_at` meets its contract.
-use native.Mathlib.Omega.{arith}
-use mathlib.Core.Path.{sym, _∙_}
-use lib.ListN.{List·getD-eq-default}
+use mathlib.Core.Path.{_∙_}
 use Rattle.lent.specs.Parts.{textAt}
 use Rattle.lent.proofs.Laws.{past-last, past-even}
 use denote.Ref.{now}

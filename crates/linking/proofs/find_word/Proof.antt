@@ -1,7 +1,5 @@
 -- `find_word` meets its contract: the word that was written to the buffer is sought.
-use Prim.Native.Nat.{ℕ}
 use mathlib.Core.Path.{ap, _∙_}
-use mathlib.Core.List.{List}
 use denote.Ref.{now}
 use Rattle.value.proofs.Writing.{puts-part}
 use Rattle.description.proofs.Words.{word-at-fits}

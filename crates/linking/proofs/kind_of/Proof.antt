@@ -1,7 +1,6 @@
 -- `kind_of` meets its contract.
 use mathlib.Core.Path.{sym}
 use Rattle.linking.proofs.Laws.{kind-other}
-use borrow.Author.Needs.{needs}
 use Rattle.linking.proofs.kind_of.Statement.{statement}
 use Rattle.linking.proofs.kind_of.Tie as tie
 

@@ -1,5 +1,4 @@
 -- `late_signal` meets its contract.
-use native.Mathlib.Omega.{arith}
 use mathlib.Core.Path.{sym}
 use Rattle.linking.proofs.Laws.{signal-last}
 use borrow.Author.Needs.{needs}

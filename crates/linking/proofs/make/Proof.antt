@@ -1,14 +1,13 @@
 -- `make` meets its contract: what is left of the services, with the settings made so far.
-use Prim.Native.Nat.{_+_, _-_, _<_, _≤_}
+use Prim.Native.Nat.{_-_, _<_, _≤_}
 use lib.ListN.{length}
+use Rattle.base.proofs.Lists.{length-mapped}
 use Rattle.service.specs.Limits.{maxServices}
 use native.Mathlib.Omega.{arith}
-use mathlib.Core.Path.{_≡_, refl, sym, _∙_}
-use mathlib.Core.List.{[]}
-use Rattle.description.specs.declared.Description.{Description}
+use mathlib.Core.Path.{_≡_, sym, _∙_}
 use Rattle.lent.specs.Parts.{nameAt, textAt}
 use Rattle.linking.specs.Links.{servicesFrom}
-use Rattle.linking.proofs.Laws.{description-in, length-mapped, services-end, services-made, services-absent}
+use Rattle.linking.proofs.Laws.{description-in, services-end, services-made, services-absent}
 use borrow.Author.Needs.{needs}
 use Rattle.linking.proofs.make.Statement.{statement}
 use Rattle.linking.proofs.make.Tie as tie
@@ -23,9 +22,6 @@ abbrev μ-loop : tie.MeasureT-loop
 μ-loop lent ends n ds services₀ j₀ services j = n - j
 
 -- what stands for a description past the end of the array
-abbrev none : Description
-none = record { values = []; count = 0; dependencies = [] }
-
 loop-holds : tie.Need-loop-holds Inv-loop μ-loop
 loop-holds c = (search needs, let e : c .before .before .args .n - 0 ≡ c .before .before .args .n = omega arith in rw e)
 
@@ -35,7 +31,7 @@ returns c =
     let h : c .before .before .before .before .before .before .before .loop .j < maxServices = omega (arith, c .before .before .before .before .before .before .loop-test .taken, c .before .before .before .before .before .before .before .before .before .before .pre) in
     sym
     (c .before .before .before .before .before .before .before .loop .inv .1
-    ∙ services-absent _ _ _ _ _ _ (c .before .before .before .before .before .before .loop-test .taken) (description-in (c .before .before .before .before .before .before .before .before .before .before .args .t4) _ none z h) (c .before .before .before .before .text-at .ensures) (c .before .before .before .resolve .ensures) (c .before .enum-told2 .given .1) _ (c .refuse .ensures))
+    ∙ services-absent _ _ _ _ _ _ (c .before .before .before .before .before .before .loop-test .taken) (description-in (c .before .before .before .before .before .before .before .before .before .before .args .t4) _ z h) (c .before .before .before .before .text-at .ensures) (c .before .before .before .resolve .ensures) (c .before .enum-told2 .given .1) _ (c .refuse .ensures))
 
 loop-again : tie.Need-loop-again Inv-loop μ-loop
 loop-again c =
@@ -43,7 +39,7 @@ loop-again c =
     let h : c .before .before .before .before .before .before .before .before .loop .j < maxServices = omega (arith, c .before .before .before .before .before .before .before .loop-test .taken, c .before .before .before .before .before .before .before .before .before .before .before .pre) in (
       search needs,
       c .before .before .before .before .before .before .before .before .loop .inv .1
-          ∙ services-made _ _ _ _ _ _ (c .before .before .before .before .before .before .before .loop-test .taken) (description-in (c .before .before .before .before .before .before .before .before .before .before .before .args .t4) _ none z h) (c .before .before .before .before .before .text-at .ensures) (c .before .before .before .before .resolve .ensures) (c .before .before .enum-told .given .1) (c .settings-of .ensures),
+          ∙ services-made _ _ _ _ _ _ (c .before .before .before .before .before .before .before .loop-test .taken) (description-in (c .before .before .before .before .before .before .before .before .before .before .before .args .t4) _ z h) (c .before .before .before .before .before .text-at .ensures) (c .before .before .before .before .resolve .ensures) (c .before .before .enum-told .given .1) (c .settings-of .ensures),
     )
 
 returns-2 : tie.Need-returns-2 Inv-loop μ-loop

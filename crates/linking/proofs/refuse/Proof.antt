@@ -1,5 +1,4 @@
 -- `refuse` meets its contract.
-use mathlib.Core.Path.{_∙_}
 use borrow.Author.Needs.{needs}
 use Rattle.linking.proofs.refuse.Statement.{statement}
 use Rattle.linking.proofs.refuse.Tie as tie

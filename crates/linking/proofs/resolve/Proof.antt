@@ -1,7 +1,7 @@
 -- `resolve` meets its contract: what is left of the dependencies, with the links made so far.
-use Prim.Native.Nat.{_+_, _-_, _≤_}
+use Prim.Native.Nat.{_-_, _≤_}
 use native.Mathlib.Omega.{arith}
-use mathlib.Core.Path.{_≡_, refl, sym, _∙_}
+use mathlib.Core.Path.{_≡_, sym, _∙_}
 use Rattle.lent.specs.Parts.{nameAt}
 use Rattle.linking.specs.Links.{noLinks, linksFrom}
 use Rattle.linking.proofs.Laws.{links-end, links-found, links-absent}

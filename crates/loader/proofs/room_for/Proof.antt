@@ -1,24 +1,19 @@
 -- `room_for` meets its contract.
-use Prim.Native.Nat.{ℕ, _+_, _-_, _*_, _<_, _≤_}
+use Prim.Native.Nat.{_+_, _-_, _*_, _<_, _≤_}
 use native.Mathlib.Omega.{arith}
-use mathlib.Core.Path.{_≡_, refl, sym, ap, _∙_}
-use mathlib.Core.List.{List, []}
+use mathlib.Core.Path.{_≡_, ap, _∙_}
 use lib.ListN.{length}
-use lib.Seq.{sets}
+use Rattle.base.proofs.Lists.{length-mapped}
 use Rattle.service.specs.Limits.{maxServices}
-use Rattle.description.specs.declared.Description.{Description}
 use Rattle.lent.specs.Parts.{textAt}
-use Rattle.linking.proofs.Laws.{description-in, length-mapped}
-use Rattle.storing.specs.Tokens.{bytesFrom, commandsFrom}
+use Rattle.linking.proofs.Laws.{description-in}
+use Rattle.storing.specs.Tokens.{bytesFrom}
 use Rattle.loader.proofs.Laws.{bytes-end, room-more, text-short}
 use borrow.Author.Needs.{needs}
 use Rattle.loader.proofs.room_for.Statement.{statement}
 use Rattle.loader.proofs.room_for.Tie as tie
 
 -- what stands for a description past the end of the array
-abbrev none : Description
-none = record { values = []; count = 0; dependencies = [] }
-
 abbrev Inv-loop : tie.InvT-loop
 Inv-loop lent ends n ds o₀ j₀ o j =
     (j ≤ n) × (o ≤ j * 8194)
@@ -44,7 +39,7 @@ loop-again c =
       search needs,
       omega (arith, c .room-of .ensures .1, c .before .before .before .before .loop .inv .1),
       c .before .before .before .before .loop .inv .2
-          ∙ room-more _ _ _ _ (c .before .before .before .loop-test .taken) (c .before .before .text-at .ensures) (description-in (c .before .before .before .before .before .before .before .args .t4) _ none z h) _ (c .room-of .ensures .0),
+          ∙ room-more _ _ _ _ (c .before .before .before .loop-test .taken) (c .before .before .text-at .ensures) (description-in (c .before .before .before .before .before .before .before .args .t4) _ z h) _ (c .room-of .ensures .0),
     )
 
 returns : tie.Need-returns Inv-loop μ-loop

@@ -1,7 +1,6 @@
 -- `read_line` meets its contract, by how the line begins.
 use native.Mathlib.Omega.{arith}
-use mathlib.Core.Path.{_≡_, sym, ap, _∙_, subst}
-use Prim.Native.Nat.{ℕ, _+_, _≤_}
+use mathlib.Core.Path.{_∙_, subst}
 use lib.ListN.{length}
 use denote.Ref.{now}
 use Rattle.text.proofs.Lines.{Inside}

@@ -1,13 +1,12 @@
 -- `read_lines` meets its contract: what the lines that are left make of the settings so far.
 use native.Mathlib.Omega.{arith}
 use mathlib.Core.Path.{_≡_, refl, sym, ap, _∙_}
-use Prim.Native.Nat.{ℕ, _+_, _-_, _≤_}
+use Prim.Native.Nat.{_+_, _-_, _≤_}
 use lib.ListN.{length, drop}
 use denote.Ref.{now}
 use Rattle.text.specs.Lines.{linesOf}
 use Rattle.text.specs.declared.Verdict.the-variants.{Good}
 use Rattle.text.proofs.Lines.{end-fits}
-use Rattle.description.specs.declared.Description.{Description}
 use Rattle.description.specs.declared.Line.{Line}
 use Rattle.description.specs.Settings.{blank}
 use Rattle.description.specs.Texts.{readAs, readOn, linesRead}

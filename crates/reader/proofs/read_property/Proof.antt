@@ -1,7 +1,7 @@
 -- `read_property` meets its contract: every offset is within the line.
 use native.Mathlib.Omega.{arith}
 use mathlib.Core.Path.{_≡_, sym, ap, _∙_, subst}
-use Prim.Native.Nat.{ℕ, _+_, _≤_}
+use Prim.Native.Nat.{_≤_}
 use lib.ListN.{length, drop, length-drop}
 use denote.Ref.{now}
 use Rattle.text.specs.Bytes.{isWhite}

@@ -1,5 +1,5 @@
 -- `command_room` meets its contract.
-use mathlib.Core.Path.{_∙_, sym, ap}
+use mathlib.Core.Path.{sym, ap}
 use lib.ListN.{length}
 use Rattle.storing.proofs.Laws.{bytes-none, room-some}
 use borrow.Author.Needs.{needs}

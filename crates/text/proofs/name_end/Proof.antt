@@ -1,7 +1,7 @@
 -- `name_end` meets its contract: what is left of the name after e bytes.
 use native.Mathlib.Omega.{arith}
 use mathlib.Core.Path.{_≡_, refl, sym, _∙_}
-use Prim.Native.Nat.{_+_, _≤_, _-_}
+use Prim.Native.Nat.{_+_, _-_}
 use lib.ListN.{length, drop}
 use denote.Ref.{now}
 use Rattle.text.specs.Bytes.{isPropertyByte, run}

@@ -1,9 +1,7 @@
 -- `opening_of` meets its contract: the places and bytes that it finds are the definition's.
 use native.Mathlib.Omega.{arith}
 use mathlib.Core.Path.{sym, _∙_}
-use lib.ListN.{length}
 use denote.Ref.{now}
-use Prim.Native.Nat.{_≤_}
 use Rattle.text.specs.Bytes.{isWhite, isPropertyByte}
 use Rattle.text.proofs.Runs.{run-within}
 use Rattle.text.proofs.Lines.{opening-found}

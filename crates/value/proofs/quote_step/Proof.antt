@@ -1,5 +1,4 @@
 -- `quote_step` meets its contract.
-use borrow.Author.Needs.{needs}
 use Rattle.value.proofs.quote_step.Statement.{statement}
 use Rattle.value.proofs.quote_step.Tie as tie
 use Rattle.value.proofs.quote_step.Reads as reads

@@ -1,11 +1,10 @@
 -- `scan_value` meets its contract: the answer for what is left, from what was read so far.
 use native.Mathlib.Omega.{arith}
 use mathlib.Core.Path.{_≡_, refl, sym, ap, _∙_}
-use Prim.Native.Nat.{ℕ, _+_, _≤_, _-_}
+use Prim.Native.Nat.{_+_, _≤_, _-_}
 use lib.ListN.{length, drop}
 use denote.Ref.{now}
 use Rattle.value.specs.declared.Sizes.{Sizes}
-use Rattle.value.specs.declared.Scan.the-variants.{Tokens}
 use Rattle.value.specs.Steps.{between}
 use Rattle.value.specs.Values.{noSizes, scanOf}
 use Rattle.value.proofs.Scans.{scanFrom, scan-end, scan-next, Fits, fits-more, fits-byte, fits-end}

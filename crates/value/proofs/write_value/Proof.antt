@@ -1,9 +1,7 @@
 -- `write_value` meets its contract: what is left to write, from what was written so far.
-use native.Mathlib.Omega.{arith}
-use mathlib.Core.Path.{_≡_, refl, sym, ap, _∙_}
-use Prim.Native.Nat.{_+_, _≤_, _-_}
-use lib.ListN.{length, drop, getD}
-use denote.Ref.{now}
+use mathlib.Core.Path.{sym, _∙_}
+use Prim.Native.Nat.{_≤_, _-_}
+use lib.ListN.{length, drop}
 use Rattle.value.specs.Steps.{between}
 use Rattle.value.specs.Values.{written}
 use Rattle.value.proofs.Scans.{writtenFrom, written-end, written-next}

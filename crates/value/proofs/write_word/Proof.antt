@@ -1,8 +1,7 @@
 -- `write_word` meets its contract: what is left to write, from what was written so far.
-use native.Mathlib.Omega.{arith}
-use mathlib.Core.Path.{_≡_, refl, sym, ap, _∙_}
+use mathlib.Core.Path.{sym, ap, _∙_}
 use Prim.Native.Nat.{ℕ, _+_, _≤_, _-_}
-use lib.ListN.{length, drop, getD}
+use lib.ListN.{length, drop}
 use denote.Ref.{now}
 use Rattle.value.specs.Steps.{between}
 use Rattle.value.specs.Values.{wordOf}

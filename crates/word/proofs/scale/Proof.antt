@@ -2,7 +2,6 @@
 use mathlib.Core.Path.{_≡_, sym, ap}
 use Prim.Native.Nat.{ℕ, _^_, _-_}
 use native.Mathlib.Omega.{arith}
-use borrow.Author.Needs.{needs}
 use Rattle.word.proofs.scale.Statement.{statement}
 use Rattle.word.proofs.scale.Tie as tie
 use Rattle.word.proofs.scale.Reads as reads
