@@ -49,53 +49,29 @@ fn start_place(s: usize, m: u64, i: usize, r: Record) -> Record
     start_record(own, own | has_bit(m, i), r)
 }
 
-fn start_each(n: usize, x: State, s: usize, m: u64) -> State
-    requires { ⌜ n ≤ maxServices ⌝ }
-    ensures { λ y. ⌜ y ≡ each (λ d r. startedAs (eqb d s) (eqb d s || hasBit m d) r) x n ⌝ }
-{
-    let mut y = x;
-    let mut i: usize = 0;
-    while i < n {
-        let r = y.records[i];
-        let q = start_place(s, m, i, r);
-        y.records[i] = q;
-        i += 1;
-    }
-    y
-}
-
-fn stop_each(n: usize, x: State) -> State
-    requires { ⌜ n ≤ maxServices ⌝ }
-    ensures { λ y. ⌜ y ≡ each (λ d r. stopped r) x n ⌝ }
-{
-    let mut y = x;
-    let mut i: usize = 0;
-    while i < n {
-        let r = y.records[i];
-        let q = stop_record(r);
-        y.records[i] = q;
-        i += 1;
-    }
-    y
-}
-
-// Start s.
-pub fn start(t: Table, x: State, s: usize) -> Changed
+// Start s. The loop stands here and changes the state that it got: a function of its own would take and give a copy.
+pub fn start(t: Table, mut x: State, s: usize) -> Changed
     ensures { λ y. ⌜ changedOutcome y ≡ outcome t x (startCall s) ⌝ }
 {
-    if is_formed(t, x) {
-        if s < t.count {
-            let m = reach_set(t, s);
-            let started = start_each(t.count, x, s, m);
-            return done(started);
-        }
+    if !is_formed(t, x) {
+        return refuse(Refusal::IllFormed, x);
+    }
+    if t.count <= s {
         return refuse(Refusal::NoService, x);
     }
-    refuse(Refusal::IllFormed, x)
+    let m = reach_set(t, s);
+    let mut i: usize = 0;
+    while i < t.count {
+        let r = x.records[i];
+        let q = start_place(s, m, i, r);
+        x.records[i] = q;
+        i += 1;
+    }
+    done(x)
 }
 
 // Stop s.
-pub fn stop(t: Table, x: State, s: usize) -> Changed
+pub fn stop(t: Table, mut x: State, s: usize) -> Changed
     ensures { λ y. ⌜ changedOutcome y ≡ outcome t x (stopCall s) ⌝ }
 {
     let formed = is_formed(t, x);
@@ -107,28 +83,39 @@ pub fn stop(t: Table, x: State, s: usize) -> Changed
         if s < n {
             let r = x.records[s];
             let q = stop_record(r);
-            let mut stopped = x;
-            stopped.records[s] = q;
-            return done(stopped);
+            x.records[s] = q;
+            return done(x);
         }
         return refuse(absent, x);
     }
     refuse(ill, x)
 }
 
-// Stop for each.
-pub fn stop_all(t: Table, x: State) -> Changed
+// Stop for each. The answers are written out: `done` and `refuse` would cost the loop a copy of the state.
+pub fn stop_all(t: Table, mut x: State) -> Changed
     ensures { λ y. ⌜ changedOutcome y ≡ outcome t x stopAll ⌝ }
 {
-    if is_formed(t, x) {
-        let all_stopped = stop_each(t.count, x);
-        return done(all_stopped);
+    if !is_formed(t, x) {
+        return Changed {
+            answer: EventAnswer::Refused(Refusal::IllFormed),
+            state: x,
+        };
     }
-    refuse(Refusal::IllFormed, x)
+    let mut k: usize = 0;
+    while k < t.count {
+        let r = x.records[k];
+        let q = stop_record(r);
+        x.records[k] = q;
+        k += 1;
+    }
+    Changed {
+        answer: EventAnswer::Done,
+        state: x,
+    }
 }
 
 // The process of s has ended, good or bad.
-pub fn end(t: Table, x: State, s: usize, good: bool) -> Changed
+pub fn end(t: Table, mut x: State, s: usize, good: bool) -> Changed
     ensures { λ y. ⌜ changedOutcome y ≡ outcome t x (endCall s good) ⌝ }
 {
     if is_formed(t, x) {
@@ -137,9 +124,8 @@ pub fn end(t: Table, x: State, s: usize, good: bool) -> Changed
             let r = x.records[s];
             if r.live {
                 let q = end_record(v, x.clock, good, r);
-                let mut ended = x;
-                ended.records[s] = q;
-                return done(ended);
+                x.records[s] = q;
+                return done(x);
             }
             return refuse(Refusal::NotLive, x);
         }

@@ -1,19 +1,46 @@
 -- The rounds: after each, the rows hold what is reached through the numbers passed. Links that agree below n reach the same.
 use Prim.Native.Nat.{ℕ, zero, suc, _+_, _≤_, _<_}
+use native.Mathlib.Nat.{lt-irrefl}
 use native.Mathlib.Numerals.{add-one}
 use native.Mathlib.Omega.{arith}
 use mathlib.Core.Path.{_≡_, refl, sym, ap, _∙_, subst}
 use mathlib.Core.Bool.{Bool, _&&_}
 use mathlib.Core.List.{List}
 use lib.Dec.{leb, ltb}
-use lib.ListN.{getD, length}
+use lib.ListN.{getD, length, set}
+use lib.Seq.{getD-set-other}
 use borrow.Author.Tests.{le-leb, lt-leb, lt-ltb, le-ltb}
 use Rattle.base.specs.Folds.{pick, some}
 use Rattle.base.specs.Sets.{hasBit}
 use Rattle.base.specs.Links.{through, reach, cyclic}
 use Rattle.base.proofs.Below.{some-as}
-use Rattle.base.proofs.Filled.{Filled, filled-as}
+use Rattle.base.proofs.Filled.{Filled, Filling, filled-as, filling-all, filling-more, filling-none}
 use Rattle.reach.specs.Rows.{rowsAs, mostRows}
+
+-- a round through k goes on in place: the rows below i are changed, from i on they are the old ones, and own is the old row of k
+pub record Rounding (n k own : ℕ) (old rows : List ℕ) (i : ℕ) : Type 0 where
+  pub filling : Filling 0 (λ j. through k (getD old j 0) (getD old k 0)) 32 n rows i
+  pub rest : (j : ℕ) → i ≤ j → getD rows j 0 ≡ getD old j 0
+  pub own-row : own ≡ getD old k 0
+
+module _ {n k own : ℕ} {old : List ℕ} where
+  pub rounding-none : n ≤ 32 → length old ≡ 32 → own ≡ getD old k 0 → Rounding n k own old old 0
+  rounding-none l h e = record { filling = filling-none l h; rest = λ j q. refl; own-row = e }
+
+  pub rounding-more : {rows : List ℕ} {i v : ℕ} → Rounding n k own old rows i → i < n → v ≡ through k (getD rows i 0) own
+      → Rounding n k own old (set rows i v) (i + 1)
+  rounding-more {rows} {i} {v} h l e =
+      record {
+        filling = filling-more (h .filling) l (e ∙ rw (h .rest i (omega arith), h .own-row));
+        rest = λ j q.
+            let w : i < j = omega arith in
+            getD-set-other rows i j v 0 (λ r. lt-irrefl i (subst (λ m. i < m) r w)) ∙ h .rest j (omega arith);
+        own-row = h .own-row;
+      }
+
+  pub rounding-all : {rows : List ℕ} {i : ℕ} → Rounding n k own old rows i → n ≤ i
+      → Filled 0 (λ j. through k (getD old j 0) (getD old k 0)) 32 rows n
+  rounding-all h l = filling-all (h .filling) l
 
 -- the rows hold what each of n numbers reaches through those below k
 pub record Reaching (d : ℕ → ℕ) (n : ℕ) (rows : List ℕ) (k : ℕ) : Type 0 where

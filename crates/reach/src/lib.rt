@@ -5,7 +5,7 @@ ghost use mathlib.Core.Path.{_≡_};
 ghost use mathlib.Core.Bool.{_&&_};
 ghost use Prim.Native.Nat.{_<_, _≤_};
 ghost use lib.Dec.{leb, ltb};
-ghost use lib.ListN.{getD};
+ghost use lib.ListN.{getD, length};
 ghost use Rattle.base.specs.Folds.{pick, some};
 ghost use Rattle.base.specs.Sets.{hasBit};
 ghost use Rattle.base.specs.Links.{through, reach, cyclic};
@@ -22,39 +22,35 @@ fn joined(k: usize, a: u64, b: u64) -> u64
     if has_bit(a, k) { a | b } else { a }
 }
 
-// One round: what is reached through k as well.
-fn round(n: usize, rows: [u64; MAX_ROWS], k: usize) -> [u64; MAX_ROWS]
-    requires { ⌜ (n ≤ 32) × (k < 32) ⌝ }
-    ensures { λ r. ⌜ Filled 0 (λ j. through k (getD rows j 0) (getD rows k 0)) 32 r n ⌝ }
+// One round, in place: what is reached through k as well. The row of k stays as it is.
+fn round(n: usize, rows: &mut [u64; MAX_ROWS], k: usize)
+    requires { ⌜ (n ≤ 32) × (k < 32) × (length (now rows) ≡ 32) ⌝ }
+    ensures { λ _. ⌜ Filled 0 (λ j. through k (getD (now (rows .entry)) j 0) (getD (now (rows .entry)) k 0)) 32 (now (rows .exit)) n ⌝ }
 {
-    let mut next = [0u64; MAX_ROWS];
+    let own = rows[k];
     let mut i: usize = 0;
     while i < n {
-        next[i] = joined(k, rows[i], rows[k]);
+        rows[i] = joined(k, rows[i], own);
         i += 1;
     }
-    next
 }
 
 // What each number below n reaches, in n rounds.
-fn reached(n: usize, rows: [u64; MAX_ROWS]) -> [u64; MAX_ROWS]
-    requires { ⌜ n ≤ 32 ⌝ }
-    ensures { λ r. ⌜ Filled 0 (reach (rowsAs rows) n) 32 r n ⌝ }
+fn reached(n: usize, rows: &mut [u64; MAX_ROWS])
+    requires { ⌜ (n ≤ 32) × (length (now rows) ≡ 32) ⌝ }
+    ensures { λ _. ⌜ Filled 0 (reach (rowsAs (now (rows .entry))) n) 32 (now (rows .exit)) n ⌝ }
 {
-    let mut all = rows;
     let mut k: usize = 0;
     while k < n {
-        let next = round(n, all, k);
-        all = next;
+        round(n, rows, k);
         k += 1;
     }
-    all
 }
 
 // Some number below n is in its own row.
-fn has_own(n: usize, rows: [u64; MAX_ROWS]) -> bool
+fn has_own(n: usize, rows: &[u64; MAX_ROWS]) -> bool
     requires { ⌜ n ≤ 32 ⌝ }
-    ensures { λ b. ⌜ b ≡ some (λ i. hasBit (rowsAs rows i) i) n ⌝ }
+    ensures { λ b. ⌜ b ≡ some (λ i. hasBit (rowsAs (now (rows .entry)) i) i) n ⌝ }
 {
     let mut found = false;
     let mut i: usize = 0;
@@ -69,8 +65,9 @@ fn is_cyclic(n: usize, rows: [u64; MAX_ROWS]) -> bool
     requires { ⌜ n ≤ 32 ⌝ }
     ensures { λ b. ⌜ b ≡ cyclic (rowsAs rows) n ⌝ }
 {
-    let all = reached(n, rows);
-    has_own(n, all)
+    let mut all = rows;
+    reached(n, &mut all);
+    has_own(n, &all)
 }
 
 fn is_subset(m: u64, c: u64) -> bool
@@ -92,9 +89,9 @@ pub struct Turn {
 }
 
 // One turn over the numbers: each whose links all lead into the set joins it.
-fn peel(n: usize, rows: [u64; MAX_ROWS], start: u64) -> Turn
-    requires { ⌜ (n ≤ 32) × Grounded (rowsAs rows) start ⌝ }
-    ensures { λ w. ⌜ Peeling rows n (w .done) (w .all) n ⌝ }
+fn peel(n: usize, rows: &[u64; MAX_ROWS], start: u64) -> Turn
+    requires { ⌜ (n ≤ 32) × Grounded (rowsAs (now rows)) start ⌝ }
+    ensures { λ w. ⌜ Peeling (now (rows .entry)) n (w .done) (w .all) n ⌝ }
 {
     let mut done = start;
     let mut all = true;
@@ -113,9 +110,9 @@ fn peel(n: usize, rows: [u64; MAX_ROWS], start: u64) -> Turn
 }
 
 // Turns until all have joined, or one adds none.
-fn peels(n: usize, rows: [u64; MAX_ROWS]) -> bool
+fn peels(n: usize, rows: &[u64; MAX_ROWS]) -> bool
     requires { ⌜ n ≤ 32 ⌝ }
-    ensures { λ b. ⌜ AllSafe rows n b ⌝ }
+    ensures { λ b. ⌜ AllSafe (now (rows .entry)) n b ⌝ }
 {
     let mut done: u64 = 0;
     let mut k: usize = 0;
@@ -138,7 +135,7 @@ pub fn has_cycle(n: usize, rows: [u64; MAX_ROWS]) -> bool
     ensures { λ b. ⌜ b ≡ (leb n mostRows && cyclic (rowsAs rows) n) ⌝ }
 {
     if n <= MAX_ROWS {
-        if peels(n, rows) {
+        if peels(n, &rows) {
             return false;
         }
         return is_cyclic(n, rows);
@@ -152,7 +149,8 @@ pub fn reach_of(n: usize, rows: [u64; MAX_ROWS], s: usize) -> u64
 {
     if n <= MAX_ROWS {
         if s < n {
-            let all = reached(n, rows);
+            let mut all = rows;
+            reached(n, &mut all);
             return all[s];
         }
         return 0;

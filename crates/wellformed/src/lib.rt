@@ -103,21 +103,6 @@ fn place_formed(n: usize, now: u64, v: Settings, r: Record) -> bool
         & (times_in_range(now, r) & is_shaped(k, p, r.live, c))
 }
 
-fn each_formed(t: Table, x: State) -> bool
-    requires { ⌜ t .count ≤ maxServices ⌝ }
-    ensures { λ b. ⌜ b ≡ every (λ s. placeFormed (t .count) (x .clock) (settingsAt t s) (recordAt x s)) (t .count) ⌝ }
-{
-    let mut ok = true;
-    let mut i: usize = 0;
-    while i < t.count {
-        let v = t.services[i];
-        let r = x.records[i];
-        ok = ok & place_formed(t.count, x.clock, v, r);
-        i += 1;
-    }
-    ok
-}
-
 // Each service's dependencies of any kind.
 fn link_rows(t: Table) -> [u64; MAX_SERVICES]
     requires { ⌜ t .count ≤ maxServices ⌝ }
@@ -133,16 +118,31 @@ fn link_rows(t: Table) -> [u64; MAX_SERVICES]
     rows
 }
 
-// The table and the state are well formed, the cycle included.
+// The table and the state are well formed, the cycle included. Both loops stand here, since a function of its own for one of them
+// would copy the table once more in every call of the engine.
 pub fn is_formed(t: Table, x: State) -> bool
     ensures { λ b. ⌜ b ≡ formed t x ⌝ }
 {
-    if t.count <= MAX_SERVICES {
-        let rows = link_rows(t);
-        let cycle = has_cycle(t.count, rows);
-        return (x.clock <= LAST_CLOCK) & each_formed(t, x) & !cycle;
+    if MAX_SERVICES < t.count {
+        return false;
     }
-    false
+    let mut rows = [0u64; MAX_SERVICES];
+    let mut i: usize = 0;
+    while i < t.count {
+        let v = t.services[i];
+        rows[i] = all_links(v);
+        i += 1;
+    }
+    let mut ok = true;
+    let mut s: usize = 0;
+    while s < t.count {
+        let v = t.services[s];
+        let r = x.records[s];
+        ok = ok & place_formed(t.count, x.clock, v, r);
+        s += 1;
+    }
+    let cycle = has_cycle(t.count, rows);
+    (x.clock <= LAST_CLOCK) & ok & !cycle
 }
 
 // The services that s reaches by any kind, or none where the set has no such service.

@@ -1,51 +1,101 @@
--- `start` meets its contract: the checks in order, then the state.
+-- `start` meets its contract: the checks in order, then the services below i are changed.
+use borrow.Author.Needs.{needs}
+use Prim.Native.Nat.{_-_}
+use mathlib.Core.Bool.{_||_}
+use lib.Dec.{eqb}
 use borrow.Author.Tests.{le-ltb}
+use Rattle.base.specs.Sets.{hasBit}
+use Rattle.base.proofs.Tests.{not-true, not-false}
+use Rattle.base.proofs.Loops.{Folded, folded-none, folded-more, folded-all}
+use Rattle.service.specs.Records.{recordAt, withRecord}
+use Rattle.rules.specs.Events.{each, startedAs}
 use Rattle.rules.specs.Calls.{check, outcome}
 use Rattle.settling.proofs.Formed.{formed-few}
 use Rattle.events.proofs.Accepted.{start-done}
-use borrow.Author.Needs.{needs}
 use Rattle.events.proofs.start.Statement.{statement}
 use Rattle.events.proofs.start.Tie as tie
 
-is-formed-requires : tie.Need-is-formed-requires
+abbrev Inv-loop : tie.InvT-loop
+Inv-loop t s x₀ m i₀ x i = Folded (λ z j. withRecord z j (startedAs (eqb j s) (eqb j s || hasBit m j) (recordAt z j))) x₀ (t .count) x i
+
+abbrev μ-loop : tie.MeasureT-loop
+μ-loop t s x₀ m i₀ x i = t .count - i
+
+is-formed-requires : tie.Need-is-formed-requires Inv-loop μ-loop
 is-formed-requires c κs = search needs
 
-reach-set-requires : tie.Need-reach-set-requires
-reach-set-requires c κs = search needs
-
-start-each-requires : tie.Need-start-each-requires
-start-each-requires c κs = search formed-few
-
-done-requires : tie.Need-done-requires
-done-requires c κs = search needs
-
-returns : tie.Need-returns
-returns c = search start-done
-
-refuse-requires : tie.Need-refuse-requires
+refuse-requires : tie.Need-refuse-requires Inv-loop μ-loop
 refuse-requires c κs = search needs
 
-returns-2 : tie.Need-returns-2
+returns : tie.Need-returns Inv-loop μ-loop
 unfolding outcome check
-returns-2 c = simp (c .refuse .ensures, le-ltb _ _ (c .before .if2 .left), c .before .before .before .if1 .taken, ← c .before .before .before .before .is-formed .ensures)
+returns c = simp (c .refuse .ensures, not-true (c .before .before .is-formed .result) .0 (c .before .if1 .taken), ← c .before .before .is-formed .ensures)
 
-refuse-requires-2 : tie.Need-refuse-requires-2
+refuse-requires-2 : tie.Need-refuse-requires-2 Inv-loop μ-loop
 refuse-requires-2 c κs = search needs
 
-returns-3 : tie.Need-returns-3
+returns-2 : tie.Need-returns-2 Inv-loop μ-loop
 unfolding outcome check
-returns-3 c = simp (c .refuse2 .ensures, c .before .if1 .left, ← c .before .before .is-formed .ensures)
+returns-2 c = simp (c .refuse2 .ensures, le-ltb _ _ (c .before .if2 .taken), not-false (c .before .before .before .before .is-formed .result) .0 (c .before .before .before .if1 .left), ← c .before .before .before .before .is-formed .ensures)
+
+reach-set-requires : tie.Need-reach-set-requires Inv-loop μ-loop
+reach-set-requires c κs = search needs
+
+loop-holds : tie.Need-loop-holds Inv-loop μ-loop
+loop-holds c = folded-none
+
+mul-r : tie.Need-mul-r Inv-loop μ-loop
+mul-r c = let h = formed-few _ _ _ (c .before .before .before .before .before .before .before .is-formed .ensures) (not-false _ .0 (c .before .before .before .before .before .before .if1 .left)) in search needs
+
+element-copy-out-r : tie.Need-element-copy-out-r Inv-loop μ-loop
+element-copy-out-r c = let h = formed-few _ _ _ (c .before .before .before .before .before .before .before .is-formed .ensures) (not-false _ .0 (c .before .before .before .before .before .before .if1 .left)) in search needs
+
+start-place-requires : tie.Need-start-place-requires Inv-loop μ-loop
+start-place-requires c κs = search needs
+
+mul-q : tie.Need-mul-q Inv-loop μ-loop
+mul-q c = let h = formed-few _ _ _ (c .before .before .before .before .before .before .before .before .before .is-formed .ensures) (not-false _ .0 (c .before .before .before .before .before .before .before .before .if1 .left)) in search needs
+
+element-set-from-q : tie.Need-element-set-from-q Inv-loop μ-loop
+element-set-from-q c = let h = formed-few _ _ _ (c .before .before .before .before .before .before .before .before .before .is-formed .ensures) (not-false _ .0 (c .before .before .before .before .before .before .before .before .if1 .left)) in search needs
+
+add-i : tie.Need-add-i Inv-loop μ-loop
+add-i c = let h = formed-few _ _ _ (c .before .before .before .before .before .before .before .before .before .is-formed .ensures) (not-false _ .0 (c .before .before .before .before .before .before .before .before .if1 .left)) in search needs
+
+loop-less : tie.Need-loop-less Inv-loop μ-loop
+loop-less c = search needs
+
+loop-again : tie.Need-loop-again Inv-loop μ-loop
+unfolding recordAt withRecord
+loop-again c = folded-more (c .before .before .before .before .loop .inv) (c .before .before .if3 .taken) (rw (c .start-place .ensures))
+
+done-requires : tie.Need-done-requires Inv-loop μ-loop
+done-requires c κs = search needs
+
+returns-3 : tie.Need-returns-3 Inv-loop μ-loop
+unfolding each
+returns-3 c = start-done _ _ _ _ _ _ _ (c .before .before .before .before .before .before .before .before .is-formed .ensures) (not-false _ .0 (c .before .before .before .before .before .before .before .if1 .left)) (c .before .before .before .before .before .if2 .left) (c .before .before .before .before .reach-set .ensures) (folded-all (c .before .before .before .loop .inv) (c .before .if3 .left)) (c .done .ensures)
 
 pub start-spec : {M : Type 1} → statement M
 start-spec =
     tie.close
     (tie.spec
+    Inv-loop
+    μ-loop
     is-formed-requires
-    reach-set-requires
-    start-each-requires
-    done-requires
-    returns
     refuse-requires
-    returns-2
+    returns
     refuse-requires-2
+    returns-2
+    reach-set-requires
+    loop-holds
+    mul-r
+    element-copy-out-r
+    start-place-requires
+    mul-q
+    element-set-from-q
+    add-i
+    loop-less
+    loop-again
+    done-requires
     returns-3)

@@ -1,37 +1,77 @@
--- `stop_all` meets its contract: the checks in order, then the state.
+-- `stop_all` meets its contract: the check, then the services below k are changed.
+use borrow.Author.Needs.{needs}
+use Prim.Native.Nat.{_-_}
+use mathlib.Core.Path.{refl}
+use Rattle.base.proofs.Tests.{not-true, not-false}
+use Rattle.base.proofs.Loops.{Folded, folded-none, folded-more, folded-all}
+use Rattle.service.specs.Records.{recordAt, withRecord}
+use Rattle.rules.specs.Events.{each, stopped}
 use Rattle.rules.specs.Calls.{check, outcome}
 use Rattle.settling.proofs.Formed.{formed-few}
 use Rattle.events.proofs.Accepted.{stop-all-done}
-use borrow.Author.Needs.{needs}
 use Rattle.events.proofs.stop_all.Statement.{statement}
 use Rattle.events.proofs.stop_all.Tie as tie
 
-is-formed-requires : tie.Need-is-formed-requires
+abbrev Inv-loop : tie.InvT-loop
+Inv-loop t x₀ k₀ x k = Folded (λ z j. withRecord z j (stopped (recordAt z j))) x₀ (t .count) x k
+
+abbrev μ-loop : tie.MeasureT-loop
+μ-loop t x₀ k₀ x k = t .count - k
+
+is-formed-requires : tie.Need-is-formed-requires Inv-loop μ-loop
 is-formed-requires c κs = search needs
 
-stop-each-requires : tie.Need-stop-each-requires
-stop-each-requires c κs = let h = formed-few _ _ _ (c .before .is-formed .ensures) (c .if1 .taken) in search needs
-
-done-requires : tie.Need-done-requires
-done-requires c κs = search needs
-
-returns : tie.Need-returns
-returns c = search stop-all-done
-
-refuse-requires : tie.Need-refuse-requires
-refuse-requires c κs = search needs
-
-returns-2 : tie.Need-returns-2
+returns : tie.Need-returns Inv-loop μ-loop
 unfolding outcome check
-returns-2 c = simp (c .refuse .ensures, c .before .if1 .left, ← c .before .before .is-formed .ensures)
+returns c = simp (not-true (c .before .is-formed .result) .0 (c .if1 .taken), ← c .before .is-formed .ensures)
+
+loop-holds : tie.Need-loop-holds Inv-loop μ-loop
+loop-holds c = folded-none
+
+mul-r : tie.Need-mul-r Inv-loop μ-loop
+mul-r c = let h = formed-few _ _ _ (c .before .before .before .before .is-formed .ensures) (not-false _ .0 (c .before .before .before .if1 .left)) in search needs
+
+element-copy-out-r : tie.Need-element-copy-out-r Inv-loop μ-loop
+element-copy-out-r c = let h = formed-few _ _ _ (c .before .before .before .before .is-formed .ensures) (not-false _ .0 (c .before .before .before .if1 .left)) in search needs
+
+stop-record-requires : tie.Need-stop-record-requires Inv-loop μ-loop
+stop-record-requires c κs = search needs
+
+mul-q : tie.Need-mul-q Inv-loop μ-loop
+mul-q c = let h = formed-few _ _ _ (c .before .before .before .before .before .before .is-formed .ensures) (not-false _ .0 (c .before .before .before .before .before .if1 .left)) in search needs
+
+element-set-from-q : tie.Need-element-set-from-q Inv-loop μ-loop
+element-set-from-q c = let h = formed-few _ _ _ (c .before .before .before .before .before .before .is-formed .ensures) (not-false _ .0 (c .before .before .before .before .before .if1 .left)) in search needs
+
+add-k : tie.Need-add-k Inv-loop μ-loop
+add-k c = let h = formed-few _ _ _ (c .before .before .before .before .before .before .is-formed .ensures) (not-false _ .0 (c .before .before .before .before .before .if1 .left)) in search needs
+
+loop-less : tie.Need-loop-less Inv-loop μ-loop
+loop-less c = search needs
+
+loop-again : tie.Need-loop-again Inv-loop μ-loop
+unfolding recordAt withRecord
+loop-again c = folded-more (c .before .before .before .before .loop .inv) (c .before .before .if2 .taken) (rw (c .stop-record .ensures))
+
+returns-2 : tie.Need-returns-2 Inv-loop μ-loop
+unfolding each
+returns-2 c = stop-all-done _ _ _ _ _ (c .before .before .before .before .is-formed .ensures) (not-false _ .0 (c .before .before .before .if1 .left)) (folded-all (c .before .before .loop .inv) (c .if2 .left)) refl
 
 pub stop-all-spec : {M : Type 1} → statement M
 stop-all-spec =
     tie.close
     (tie.spec
+    Inv-loop
+    μ-loop
     is-formed-requires
-    stop-each-requires
-    done-requires
     returns
-    refuse-requires
+    loop-holds
+    mul-r
+    element-copy-out-r
+    stop-record-requires
+    mul-q
+    element-set-from-q
+    add-k
+    loop-less
+    loop-again
     returns-2)

@@ -15,7 +15,7 @@ is-cyclic-requires : tie.Need-is-cyclic-requires
 is-cyclic-requires c κs = search needs
 
 returns-2 : tie.Need-returns-2
-returns-2 c = rw (le-leb _ _ (c .before .before .before .if1 .taken)) (c .is-cyclic .ensures)
+returns-2 c = rw (le-leb _ _ (c .before .before .before .before .if1 .taken)) (c .is-cyclic .ensures)
 
 returns-3 : tie.Need-returns-3
 returns-3 c = rw (lt-leb _ _ (c .if1 .left))

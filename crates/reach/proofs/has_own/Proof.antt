@@ -19,8 +19,8 @@ loop-holds c = folded-none
 mul-has-bit : tie.Need-mul-has-bit Inv-loop μ-loop
 mul-has-bit c = search needs
 
-array-read-has-bit : tie.Need-array-read-has-bit Inv-loop μ-loop
-array-read-has-bit c = search needs
+element-copy-out-has-bit : tie.Need-element-copy-out-has-bit Inv-loop μ-loop
+element-copy-out-has-bit c = search needs
 
 has-bit-requires : tie.Need-has-bit-requires Inv-loop μ-loop
 has-bit-requires c κs = search needs
@@ -45,7 +45,7 @@ has-own-spec =
     μ-loop
     loop-holds
     mul-has-bit
-    array-read-has-bit
+    element-copy-out-has-bit
     has-bit-requires
     add-i
     loop-less

@@ -7,10 +7,10 @@ use Rattle.reach.proofs.peel.Statement.{statement}
 use Rattle.reach.proofs.peel.Tie as tie
 
 abbrev Inv-loop : tie.InvT-loop
-Inv-loop n start rows done₀ all₀ i₀ done all i = Peeling rows n done all i
+Inv-loop n rows start done₀ all₀ i₀ done all i = Peeling rows n done all i
 
 abbrev μ-loop : tie.MeasureT-loop
-μ-loop n start rows done₀ all₀ i₀ done all i = n - i
+μ-loop n rows start done₀ all₀ i₀ done all i = n - i
 
 loop-holds : tie.Need-loop-holds Inv-loop μ-loop
 loop-holds c = peeling-none (c .pre .1)
@@ -18,8 +18,8 @@ loop-holds c = peeling-none (c .pre .1)
 mul-m : tie.Need-mul-m Inv-loop μ-loop
 mul-m c = search needs
 
-array-read-m : tie.Need-array-read-m Inv-loop μ-loop
-array-read-m c = search needs
+element-copy-out-m : tie.Need-element-copy-out-m Inv-loop μ-loop
+element-copy-out-m c = search needs
 
 is-subset-requires : tie.Need-is-subset-requires Inv-loop μ-loop
 is-subset-requires c κs = search needs
@@ -47,7 +47,7 @@ peel-spec =
     μ-loop
     loop-holds
     mul-m
-    array-read-m
+    element-copy-out-m
     is-subset-requires
     grow-requires
     add-i

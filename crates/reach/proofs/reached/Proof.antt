@@ -7,13 +7,13 @@ use Rattle.reach.proofs.reached.Statement.{statement}
 use Rattle.reach.proofs.reached.Tie as tie
 
 abbrev Inv-loop : tie.InvT-loop
-Inv-loop n all₀ k₀ all k = Reaching (rowsAs all₀) n all k
+Inv-loop n rows₀ k₀ rows k = Reaching (rowsAs rows₀) n rows k
 
 abbrev μ-loop : tie.MeasureT-loop
-μ-loop n all₀ k₀ all k = n - k
+μ-loop n rows₀ k₀ rows k = n - k
 
 loop-holds : tie.Need-loop-holds Inv-loop μ-loop
-loop-holds c = search reaching-none
+loop-holds c = reaching-none _ _ (c .pre .1)
 
 round-requires : tie.Need-round-requires Inv-loop μ-loop
 round-requires c κs = search needs

@@ -1,42 +1,40 @@
--- `round` meets its contract: the rows below i are filled.
+-- `round` meets its contract: the rows below i are changed.
 use borrow.Author.Needs.{needs}
 use Prim.Native.Nat.{_-_}
 use mathlib.Core.Path.{refl}
-use lib.ListN.{getD}
-use Rattle.base.specs.Links.{through}
-use Rattle.base.proofs.Filled.{Filling, filling-none, filling-more, filling-all}
+use Rattle.reach.proofs.Rounds.{Rounding, rounding-none, rounding-more, rounding-all}
 use Rattle.reach.proofs.round.Statement.{statement}
 use Rattle.reach.proofs.round.Tie as tie
 
 abbrev Inv-loop : tie.InvT-loop
-Inv-loop n k rows next₀ i₀ next i = Filling 0 (λ j. through k (getD rows j 0) (getD rows k 0)) 32 n next i
+Inv-loop n rows₀ k own i₀ rows i = Rounding n k own rows₀ rows i
 
 abbrev μ-loop : tie.MeasureT-loop
-μ-loop n k rows next₀ i₀ next i = n - i
+μ-loop n rows₀ k own i₀ rows i = n - i
+
+mul-own : tie.Need-mul-own Inv-loop μ-loop
+mul-own c = search needs
+
+element-copy-out-own : tie.Need-element-copy-out-own Inv-loop μ-loop
+element-copy-out-own c = search needs
 
 loop-holds : tie.Need-loop-holds Inv-loop μ-loop
-loop-holds c = filling-none (c .pre .0) refl
+loop-holds c = rounding-none (c .before .pre .0) (c .before .pre .2) refl
 
 mul-joined : tie.Need-mul-joined Inv-loop μ-loop
 mul-joined c = search needs
 
-array-read-joined : tie.Need-array-read-joined Inv-loop μ-loop
-array-read-joined c = search needs
-
-mul-joined-2 : tie.Need-mul-joined-2 Inv-loop μ-loop
-mul-joined-2 c = search needs
-
-array-read-joined-2 : tie.Need-array-read-joined-2 Inv-loop μ-loop
-array-read-joined-2 c = search needs
+element-copy-out-joined : tie.Need-element-copy-out-joined Inv-loop μ-loop
+element-copy-out-joined c = search needs
 
 joined-requires : tie.Need-joined-requires Inv-loop μ-loop
 joined-requires c κs = search needs
 
-mul-next : tie.Need-mul-next Inv-loop μ-loop
-mul-next c = search needs
+mul-rows : tie.Need-mul-rows Inv-loop μ-loop
+mul-rows c = search needs
 
-array-write-next : tie.Need-array-write-next Inv-loop μ-loop
-array-write-next c = search needs
+element-write-rows : tie.Need-element-write-rows Inv-loop μ-loop
+element-write-rows c = search needs
 
 add-i : tie.Need-add-i Inv-loop μ-loop
 add-i c = search needs
@@ -45,10 +43,10 @@ loop-less : tie.Need-loop-less Inv-loop μ-loop
 loop-less c = search needs
 
 loop-again : tie.Need-loop-again Inv-loop μ-loop
-loop-again c = search filling-more
+loop-again c = search rounding-more
 
 returns : tie.Need-returns Inv-loop μ-loop
-returns c = search filling-all
+returns c = rounding-all (c .before .loop .inv) (c .loop-test .left)
 
 pub round-spec : {M : Type 1} → statement M
 round-spec =
@@ -56,14 +54,14 @@ round-spec =
     (tie.spec
     Inv-loop
     μ-loop
+    mul-own
+    element-copy-out-own
     loop-holds
     mul-joined
-    array-read-joined
-    mul-joined-2
-    array-read-joined-2
+    element-copy-out-joined
     joined-requires
-    mul-next
-    array-write-next
+    mul-rows
+    element-write-rows
     add-i
     loop-less
     loop-again
