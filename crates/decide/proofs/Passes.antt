@@ -2,9 +2,6 @@
 use Prim.Native.Nat.{ℕ, _+_, _<_, _≤_}
 use native.Mathlib.Omega.{arith}
 use mathlib.Core.Path.{_≡_, ap, _∙_}
-use lib.Dec.{leb}
-use borrow.Author.Tests.{le-leb, lt-leb}
-use Rattle.base.specs.Folds.{pick}
 use Rattle.base.proofs.Loops.{Folded, folded-none, folded-more, folded-all}
 use Rattle.service.specs.Limits.{maxServices}
 use Rattle.service.specs.declared.Table.{Table}
@@ -14,9 +11,8 @@ use Rattle.rules.specs.Rules.{chosen}
 use Rattle.standing.specs.declared.Standing.{Standing}
 use Rattle.standing.specs.Standing.{nowhere, noting, standing}
 use Rattle.decide.specs.declared.Fits.{Fits}
-use Rattle.decide.specs.declared.Decision.{Decision}
 use Rattle.decide.specs.Fits.{noFits, fitting, fitted, choiceFrom}
-use Rattle.decide.specs.Decided.{decided, undecided, lostByUser}
+use Rattle.decide.specs.Lost.{lostByUser}
 use Rattle.decide.proofs.Sets.{choice-as, user-as}
 
 -- the second pass: the sets are whole, and the services below s are fitted
@@ -33,17 +29,12 @@ module _ {t : Table} {x : State} where
       → Fitting t x st g (s + 1)
   fitting-more h l e = record { stands = h .stands; folded = folded-more (h .folded) l e }
 
-  pub fitting-all : {st : Standing} {f : Fits} {s : ℕ} {c : Choice} → t .count ≤ maxServices → Fitting t x st f s → t .count ≤ s
-      → c ≡ choiceFrom f (t .count)
-      → _≡_ {A = Decision} (record { choice = c; user = st .user }) (pick (leb (t .count) maxServices) (decided t x) undecided)
-  unfolding decided
-  fitting-all {st} {f} {s} {c} m h l e =
-      let small : t .count ≤ 64 = omega arith in
-      let one : c ≡ chosen t x
-      = e ∙ ap (λ a. choiceFrom a (t .count)) (folded-all (h .folded) l ∙ ap (λ a. fitted t x a (t .count)) (h .stands))
-      ∙ choice-as t x small in
-      let two : st .user ≡ lostByUser t x = ap (λ (a : Standing). a .user) (h .stands) ∙ user-as t x small in
-      rw (one, two, le-leb (t .count) maxServices m)
+  -- after both passes; with more than 64 services a set would not hold them
+  module _ {st : Standing} {f : Fits} {s : ℕ} (few : t .count ≤ maxServices) (h : Fitting t x st f s) (l : t .count ≤ s) where
+    pub choice-made : {c : Choice} → c ≡ choiceFrom f (t .count) → c ≡ chosen t x
+    choice-made e =
+        e ∙ ap (λ a. choiceFrom a (t .count)) (folded-all (h .folded) l ∙ ap (λ a. fitted t x a (t .count)) (h .stands))
+        ∙ choice-as t x (omega arith)
 
-pub too-many : (t : Table) (x : State) → maxServices < t .count → undecided ≡ pick (leb (t .count) maxServices) (decided t x) undecided
-too-many t x l = rw (lt-leb (t .count) maxServices l)
+    pub user-gathered : st .user ≡ lostByUser t x
+    user-gathered = ap (λ (a : Standing). a .user) (h .stands) ∙ user-as t x (omega arith)

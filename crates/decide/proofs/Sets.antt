@@ -27,7 +27,7 @@ use Rattle.standing.specs.Fitting.{loseBy, abandonBy, settleBy, wakeBy, release
 use Rattle.standing.proofs.Gathered.{lost-is, user-is, barred-is, unready-is, blocked-is, needed-is, called-is}
 use Rattle.decide.specs.declared.Fits.{Fits}
 use Rattle.decide.specs.Fits.{noFits, fitting, fitted, tryIn, laterChoice, choiceFrom}
-use Rattle.decide.specs.Decided.{lostByUser}
+use Rattle.decide.specs.Lost.{lostByUser}
 
 module _ (t : Table) (x : State) (l : t .count ≤ 64) where
   abbrev here : Standing

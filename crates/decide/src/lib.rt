@@ -1,23 +1,16 @@
-// The choice of the next action: the first rule with any service that it fits, lowest service first.
+// The choice of the next action: the first rule with any service that it fits, lowest service first. Who asks makes two passes over
+// the services: the first gathers where they stand, the second whom each rule fits; then the choice is made from the sets.
 use base::lowest;
 use base::single_of;
 use rules::Choice;
 use rules::Rule;
-use service::MAX_SERVICES;
 use service::Record;
 use service::Settings;
-use service::State;
-use service::Table;
 use standing::Standing;
 use standing::Which;
-use standing::noted;
 use standing::which_fit;
 ghost use mathlib.Core.Path.{_≡_};
-ghost use lib.Dec.{leb};
-ghost use Rattle.base.specs.Folds.{pick};
-ghost use Rattle.service.specs.Limits.{maxServices};
 ghost use Rattle.decide.specs.Fits.{noFits, addedIn, fittedIn, laterChoice, choiceFrom};
-ghost use Rattle.decide.specs.Decided.{decided, undecided};
 
 // For each rule the services that it fits.
 pub struct Fits {
@@ -31,14 +24,8 @@ pub struct Fits {
     pub expire: u64,
 }
 
-// The choice, and the services not up with no cause that have the cause user, which rule 1 asks for.
-pub struct Decision {
-    pub choice: Choice,
-    pub user: u64,
-}
-
 impl Fits {
-    fn none() -> Fits
+    pub fn none() -> Fits
         ensures { λ f. ⌜ f ≡ noFits ⌝ }
     {
         Fits {
@@ -70,7 +57,7 @@ fn added(f: Fits, w: Which, s: usize) -> Fits
 }
 
 // The sets with service s as well.
-fn fit(f: Fits, now: u64, v: Settings, r: Record, st: Standing, s: usize) -> Fits
+pub fn fit(f: Fits, now: u64, v: Settings, r: Record, st: Standing, s: usize) -> Fits
     ensures { λ g. ⌜ g ≡ fittedIn f now v r st s ⌝ }
 {
     let w = which_fit(now, v, r, st, s);
@@ -101,7 +88,7 @@ fn choose_later(f: Fits, n: usize) -> Choice
 }
 
 // Rules 1 to 4, then the later ones.
-fn choose(f: Fits, n: usize) -> Choice
+pub fn choose(f: Fits, n: usize) -> Choice
     ensures { λ c. ⌜ c ≡ choiceFrom f n ⌝ }
 {
     let lose = lowest(f.lose, n);
@@ -121,37 +108,4 @@ fn choose(f: Fits, n: usize) -> Choice
         return Choice::Fit(Rule::Wake, wake);
     }
     choose_later(f, n)
-}
-
-// One pass gathers where the services stand, a second whom each rule fits. With more than 32 services nothing is decided.
-pub fn decide(t: Table, x: State) -> Decision
-    ensures { λ d. ⌜ d ≡ pick (leb (t .count) maxServices) (decided t x) undecided ⌝ }
-{
-    if MAX_SERVICES < t.count {
-        return Decision {
-            choice: Choice::Quiet,
-            user: 0,
-        };
-    }
-    let mut st = Standing::none();
-    let mut i: usize = 0;
-    while i < t.count {
-        let v = t.services[i];
-        let r = x.records[i];
-        st = noted(st, v, r, i);
-        i += 1;
-    }
-    let mut f = Fits::none();
-    let mut s: usize = 0;
-    while s < t.count {
-        let v = t.services[s];
-        let r = x.records[s];
-        f = fit(f, x.clock, v, r, st, s);
-        s += 1;
-    }
-    let c = choose(f, t.count);
-    Decision {
-        choice: c,
-        user: st.user,
-    }
 }

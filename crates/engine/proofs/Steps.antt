@@ -1,12 +1,10 @@
--- One step: what the decision says is what the rules choose, and what it leaves and hands out is theirs.
-use Prim.Native.Nat.{ℕ, _≤_, _<_}
+-- One step: what the code chose is what the rules choose, and what it leaves and hands out is theirs.
+use Prim.Native.Nat.{ℕ, _<_}
 use mathlib.Core.Path.{_≡_, refl, sym, ap, _∙_, subst}
-use mathlib.Core.Bool.{Bool, true}
-use lib.Dec.{leb}
-use borrow.Author.Tests.{le-leb}
+use mathlib.Core.Bool.{Bool, true, false}
 use Rattle.base.specs.Folds.{pick}
 use Rattle.base.specs.Sets.{overlap}
-use Rattle.service.specs.Limits.{maxServices}
+use Rattle.service.specs.Numbers.{isQuiet}
 use Rattle.service.specs.Settings.{settingsAt}
 use Rattle.service.specs.Records.{recordAt, withRecord}
 use Rattle.service.specs.declared.Action.{Action}
@@ -17,14 +15,15 @@ use Rattle.service.specs.declared.State.{State}
 use Rattle.service.specs.declared.Step.{Step}
 use Rattle.rules.specs.declared.Rule.{Rule}
 use Rattle.rules.specs.declared.Rule.the-variants.{Lose, Abandon, Settle, Wake, Release, Begin, End, Expire}
+use Rattle.rules.specs.declared.Choice.{Choice}
 use Rattle.rules.specs.declared.Choice.the-variants.{Quiet as NoRule, Fit}
 use Rattle.rules.specs.WellFormed.{formed}
 use Rattle.rules.specs.Rules.{lostToUser, leaves, hands, chosen, act, actOn, nextAction}
 use Rattle.rules.proofs.Next.{Chosen, rule, chosen-is}
+use Rattle.rules.proofs.Resting.{loud}
 use Rattle.settling.specs.Sound.{sound}
-use Rattle.settling.proofs.Formed.{few, sound-at}
-use Rattle.decide.specs.declared.Decision.{Decision}
-use Rattle.decide.specs.Decided.{lostByUser, decided, undecided}
+use Rattle.settling.proofs.Formed.{sound-at}
+use Rattle.decide.specs.Lost.{lostByUser}
 use Rattle.decide.proofs.Sets.{lost-to-user}
 use Rattle.rule_records.specs.Left.{leftBy}
 use Rattle.actions.specs.Handed.{handedBy}
@@ -52,57 +51,30 @@ module _ (t : Table) (x : State) (s : ℕ) where
   handed-as End = refl
   handed-as Expire = refl
 
--- d is what the code decided
-module _ (t : Table) (x : State) (d : Decision) (f : formed t x ≡ true) (e : d ≡ pick (leb (t .count) maxServices) (decided t x) undecided) where
-  decision : d ≡ decided t x
-  decision = e ∙ rw (le-leb (t .count) maxServices (few t x f))
-
-  choice : d .choice ≡ chosen t x
-  unfolding decided
-  choice = ap (λ (y : Decision). y .choice) decision
-
-  user : d .user ≡ lostByUser t x
-  unfolding decided
-  user = ap (λ (y : Decision). y .user) decision
-
+-- c is what the code chose
+module _ (t : Table) (y : State) (c : Choice) (f : formed t y ≡ true) (choice : c ≡ chosen t y) where
   -- a service that is chosen is one of the set
-  chosen-below : (k : Rule) (s : ℕ) → d .choice ≡ Fit k s → s < t .count
-  chosen-below k s h = go (subst (Chosen t x) (sym choice ∙ h) (chosen-is t x))
+  pub chosen-below : (k : Rule) (s : ℕ) → c ≡ Fit k s → s < t .count
+  chosen-below k s h = go (subst (Chosen t y) (sym choice ∙ h) (chosen-is t y))
     where
-      go : Chosen t x (Fit k s) → s < t .count
+      go : Chosen t y (Fit k s) → s < t .count
       go (rule k s l b) = l .bound
 
-  step-quiet : d .choice ≡ NoRule → _≡_ {A = Step} (record { action = Quiet; state = x }) (nextAction t x)
+  pub step-quiet : c ≡ NoRule → _≡_ {A = Step} (record { action = Quiet; state = y }) (nextAction t y)
   unfolding nextAction actOn
   step-quiet h = rw (sym choice ∙ h)
 
-  step-fits : (k : Rule) (s : ℕ) (u : Bool) (r : Record) (a : Action) → d .choice ≡ Fit k s
-      → u ≡ overlap (settingsAt t s .hard) (d .user)
-      → r ≡ pick (sound (settingsAt t s) (x .clock) (recordAt x s)) (leftBy k u (settingsAt t s) (x .clock) (recordAt x s)) (recordAt x s)
-      → a ≡ handedBy k (settingsAt t s) (recordAt x s) s
-      → _≡_ {A = Step} (record { action = a; state = withRecord x s r }) (nextAction t x)
+  -- m is the set that the code gathered for rule 1's cause; what a rule hands out is not quiet
+  pub step-fits : (k : Rule) (s m : ℕ) (u : Bool) (r : Record) (a : Action) → m ≡ lostByUser t y → c ≡ Fit k s
+      → u ≡ overlap (settingsAt t s .hard) m
+      → r ≡ pick (sound (settingsAt t s) (y .clock) (recordAt y s)) (leftBy k u (settingsAt t s) (y .clock) (recordAt y s)) (recordAt y s)
+      → a ≡ handedBy k (settingsAt t s) (recordAt y s) s
+      → (_≡_ {A = Step} (record { action = a; state = withRecord y s r }) (nextAction t y)) × (isQuiet a ≡ false)
   unfolding nextAction actOn act
-  step-fits k s u r a h i j m =
+  step-fits k s m u r a user h i j n =
       let l : s < t .count = chosen-below k s h in
-      let v : u ≡ lostToUser t x s = i ∙ ap (overlap (settingsAt t s .hard)) user ∙ lost-to-user t x s in
-      let w : r ≡ leaves k t x s
-      = j ∙ rw (sound-at t x f s l) (ap (λ b. leftBy k b (settingsAt t s) (x .clock) (recordAt x s)) v ∙ left-as t x s k) in
-      let n : a ≡ hands k t x s = m ∙ handed-as t x s k in
-      rw (sym choice ∙ h, w, n)
-
--- a service that the code was told to act on
-pub few-below : (t : Table) (x : State) (d : Decision) (k : Rule) (s : ℕ) → formed t x ≡ true
-    → d ≡ pick (leb (t .count) maxServices) (decided t x) undecided → d .choice ≡ Fit k s → (s < t .count) × (t .count ≤ maxServices)
-few-below t x d k s f e h = (chosen-below t x d f e k s h, few t x f)
-
-pub quiet-step : (t : Table) (x : State) (d : Decision) → formed t x ≡ true → d ≡ pick (leb (t .count) maxServices) (decided t x) undecided
-    → d .choice ≡ NoRule → _≡_ {A = Step} (record { action = Quiet; state = x }) (nextAction t x)
-quiet-step t x d f e h = step-quiet t x d f e h
-
-pub rule-step : (t : Table) (x : State) (d : Decision) (k : Rule) (s : ℕ) (u : Bool) (r : Record) (a : Action) → formed t x ≡ true
-    → d ≡ pick (leb (t .count) maxServices) (decided t x) undecided → d .choice ≡ Fit k s
-    → u ≡ overlap (settingsAt t s .hard) (d .user)
-    → r ≡ pick (sound (settingsAt t s) (x .clock) (recordAt x s)) (leftBy k u (settingsAt t s) (x .clock) (recordAt x s)) (recordAt x s)
-    → a ≡ handedBy k (settingsAt t s) (recordAt x s) s
-    → _≡_ {A = Step} (record { action = a; state = withRecord x s r }) (nextAction t x)
-rule-step t x d k s u r a f e h i j m = step-fits t x d f e k s u r a h i j m
+      let v : u ≡ lostToUser t y s = i ∙ ap (overlap (settingsAt t s .hard)) user ∙ lost-to-user t y s in
+      let w : r ≡ leaves k t y s
+      = j ∙ rw (sound-at t y f s l) (ap (λ b. leftBy k b (settingsAt t s) (y .clock) (recordAt y s)) v ∙ left-as t y s k) in
+      let o : a ≡ hands k t y s = n ∙ handed-as t y s k in
+      (rw (sym choice ∙ h, w, o), ap isQuiet o ∙ loud k t y s)

@@ -4,14 +4,17 @@ use mathlib.Core.Path.{_≡_}
 use mathlib.Core.Bool.{Bool, true, _&&_}
 use mathlib.Core.List.{List}
 use lib.Dec.{leb}
-use Rattle.service.specs.Numbers.{isQuiet}
+use Rattle.base.specs.Folds.{first}
+use Rattle.service.specs.Numbers.{actionNumber, actionService, isQuiet}
 use Rattle.service.specs.declared.RunAnswer.{RunAnswer}
 use Rattle.service.specs.declared.RunAnswer.the-variants.{Ran as RanTo, Refused}
 use Rattle.service.specs.declared.Ran.{Ran}
 use Rattle.service.specs.declared.Table.{Table}
 use Rattle.service.specs.declared.State.{State}
+use Rattle.service.specs.declared.Step.{Step}
 use Rattle.rules.specs.Rules.{nextAction}
-use Rattle.rules.specs.Runs.{stateAfter, stepsToQuiet, writtenServices, writtenActions}
+use Rattle.rules.specs.Runs.{actionAfter, stateAfter, written}
+use Rattle.engine.specs.declared.Progress.{Progress}
 
 -- the number of actions is at most 4n, and the action after them is quiet
 abbrev pub restedAs : RunAnswer → Table → State → Bool
@@ -21,8 +24,10 @@ restedAs (Refused k) t x = true
 abbrev pub restedWithin : Table → Ran → Bool
 restedWithin t r = restedAs (r .answer) t (r .state)
 
--- an accepted run, which got the slices s and a and leaves s′ and a′
-pub record RanWhole (t : Table) (x : State) (s a : List ℕ) (r : Ran) (s′ a′ : List ℕ) : Type 0 where
-  pub result : r ≡ record { answer = RanTo (stepsToQuiet t x); state = stateAfter t x (stepsToQuiet t x) }
-  pub services : s′ ≡ writtenServices t x s
-  pub actions : a′ ≡ writtenActions t x a
+-- from x at most m actions are handed out; it got the slices s and a and leaves s′ and a′. With a limit of one it is the next action
+pub record Advanced (t : Table) (x : State) (m : ℕ) (s a : List ℕ) (r : Progress) (s′ a′ : List ℕ) : Type 0 where
+  pub count : r .count ≡ first (λ k. isQuiet (actionAfter t x k)) m
+  pub state : r .state ≡ stateAfter t x (r .count)
+  pub services : s′ ≡ written (λ k. actionService (actionAfter t x k)) s (r .count)
+  pub actions : a′ ≡ written (λ k. actionNumber (actionAfter t x k)) a (r .count)
+  pub single : m ≡ 1 → _≡_ {A = Step} (record { action = r .last; state = r .state }) (nextAction t x)

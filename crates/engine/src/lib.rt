@@ -4,9 +4,10 @@
 use actions::action_number;
 use actions::action_service;
 use actions::hand_out;
-use actions::is_quiet;
 use base::overlaps;
-use decide::decide;
+use decide::Fits;
+use decide::choose;
+use decide::fit;
 pub use events::clock;
 pub use events::end;
 pub use events::start;
@@ -21,20 +22,20 @@ use service::Ran;
 use service::Refusal;
 use service::RunAnswer;
 use service::State;
-use service::Step;
 use service::Stepped;
 use service::Table;
+use standing::Standing;
+use standing::noted;
 use wellformed::is_formed;
 ghost use mathlib.Core.Path.{_≡_};
 ghost use mathlib.Core.Bool.{true};
-ghost use Prim.Native.Nat.{_≤_, _*_};
+ghost use Prim.Native.Nat.{_≤_};
 ghost use lib.ListN.{length};
 ghost use Rattle.service.specs.declared.RunAnswer.the-variants.{Refused};
 ghost use Rattle.service.specs.Records.{freshState};
 ghost use Rattle.rules.specs.WellFormed.{formed};
-ghost use Rattle.rules.specs.Rules.{nextAction};
 ghost use Rattle.rules.specs.Calls.{next as nextCall, run as runCall, outcome, steppedOutcome, ranOutcome};
-ghost use Rattle.engine.specs.Quiet.{restedWithin, RanWhole};
+ghost use Rattle.engine.specs.Quiet.{restedWithin, Advanced};
 
 // The state that a supervisor begins with.
 pub fn fresh() -> State
@@ -43,31 +44,61 @@ pub fn fresh() -> State
     State::fresh()
 }
 
-// The next action by the rules, of a state that has passed list 24.
-fn next_step(t: Table, x: State) -> Step
-    requires { ⌜ formed t x ≡ true ⌝ }
-    ensures { λ y. ⌜ y ≡ nextAction t x ⌝ }
+// How many actions were handed out, the last of them, and the state they left. Where all is quiet, the last is that.
+pub struct Progress {
+    pub last: Action,
+    pub count: usize,
+    pub state: State,
+}
+
+// Hands out actions until all is quiet, but no more than the limit, from a state that has passed list 24. Both passes of a step stand
+// here, and the step changes one record in place: a function of its own for a step or a pass would copy table and state each time.
+fn advance(t: Table, x: State, limit: usize, services: &mut [u64], actions: &mut [u64]) -> Progress
+    requires { ⌜ (formed t x ≡ true) × (t .count ≤ 32) × (limit ≤ length (now services)) × (limit ≤ length (now actions)) × (limit ≤ 128) ⌝ }
+    ensures { λ r. ⌜ Advanced t x limit (now (services .entry)) (now (actions .entry)) r (now (services .exit)) (now (actions .exit)) ⌝ }
 {
-    let d = decide(t, x);
-    let c = d.choice;
-    match c {
-        Choice::Quiet => Step {
-            action: Action::Quiet,
-            state: x,
-        },
-        Choice::Fit(k, s) => {
-            let v = t.services[s];
-            let r = x.records[s];
-            let user = overlaps(v.hard, d.user);
-            let q = leave(k, user, v, x.clock, r);
-            let a = hand_out(k, v, r, s);
-            let mut y = x;
-            y.records[s] = q;
-            Step {
-                action: a,
-                state: y,
-            }
+    let mut y = x;
+    let mut last = Action::Quiet;
+    let mut k: usize = 0;
+    while k < limit {
+        let mut st = Standing::none();
+        let mut i: usize = 0;
+        while i < t.count {
+            let v = t.services[i];
+            let r = y.records[i];
+            st = noted(st, v, r, i);
+            i += 1;
         }
+        let mut f = Fits::none();
+        let mut j: usize = 0;
+        while j < t.count {
+            let v = t.services[j];
+            let r = y.records[j];
+            f = fit(f, y.clock, v, r, st, j);
+            j += 1;
+        }
+        let c = choose(f, t.count);
+        let Choice::Fit(rule, s) = c else {
+            return Progress {
+                last: Action::Quiet,
+                count: k,
+                state: y,
+            };
+        };
+        let v = t.services[s];
+        let r = y.records[s];
+        let user = overlaps(v.hard, st.user);
+        let q = leave(rule, user, v, y.clock, r);
+        last = hand_out(rule, v, r, s);
+        y.records[s] = q;
+        services[k] = action_service(last);
+        actions[k] = action_number(last);
+        k += 1;
+    }
+    Progress {
+        last,
+        count: k,
+        state: y,
     }
 }
 
@@ -76,8 +107,10 @@ pub fn next_action(t: Table, x: State) -> Stepped
     ensures { λ y. ⌜ steppedOutcome y ≡ outcome t x nextCall ⌝ }
 {
     if is_formed(t, x) {
-        let z = next_step(t, x);
-        let a = z.action;
+        let mut services = [0u64; 1];
+        let mut actions = [0u64; 1];
+        let z = advance(t, x, 1, &mut services, &mut actions);
+        let a = z.last;
         let left = z.state;
         return Stepped {
             answer: ActionAnswer::Act(a),
@@ -87,35 +120,6 @@ pub fn next_action(t: Table, x: State) -> Stepped
     Stepped {
         answer: ActionAnswer::Refused(Refusal::IllFormed),
         state: x,
-    }
-}
-
-// A run to quiet of a state that has passed list 24, with room enough.
-fn run(t: Table, x: State, services: &mut [u64], actions: &mut [u64]) -> Ran
-    requires { ⌜ (formed t x ≡ true) × (t .count ≤ 32) × (4 * t .count ≤ length (now services)) × (4 * t .count ≤ length (now actions)) ⌝ }
-    ensures { λ r. ⌜ RanWhole t x (now (services .entry)) (now (actions .entry)) r (now (services .exit)) (now (actions .exit)) ⌝ }
-{
-    let mut y = x;
-    let mut k: usize = 0;
-    let limit = 4 * t.count;
-    while k < limit {
-        let z = next_step(t, y);
-        let a = z.action;
-        if is_quiet(a) {
-            return Ran {
-                answer: RunAnswer::Ran(k),
-                state: y,
-            };
-        }
-        services[k] = action_service(a);
-        actions[k] = action_number(a);
-        let w = z.state;
-        y = w;
-        k += 1;
-    }
-    Ran {
-        answer: RunAnswer::Ran(k),
-        state: y,
     }
 }
 
@@ -137,7 +141,12 @@ pub fn run_to_quiet(t: Table, x: State, services: &mut [u64], actions: &mut [u64
         let room = 4 * t.count;
         if room <= services.len() {
             if room <= actions.len() {
-                return run(t, x, services, actions);
+                let z = advance(t, x, room, services, actions);
+                let rest = z.state;
+                return Ran {
+                    answer: RunAnswer::Ran(z.count),
+                    state: rest,
+                };
             }
             return refuse_run(Refusal::NoRoom, x);
         }

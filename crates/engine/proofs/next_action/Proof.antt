@@ -1,6 +1,10 @@
--- `next_action` meets its contract: list 24, then the step.
-use mathlib.Core.Path.{_∙_, sym}
+-- `next_action` meets its contract: list 24, then a run of at most one action.
+use borrow.Author.Needs.{needs}
+use mathlib.Core.Path.{_∙_, refl, sym}
+use native.Mathlib.Omega.{arith}
 use Rattle.rules.specs.Calls.{check, outcome}
+use Rattle.settling.proofs.Formed.{formed-few}
+use Rattle.engine.proofs.Running.{next-done}
 use borrow.Author.Needs.{needs}
 use Rattle.engine.proofs.next_action.Statement.{statement}
 use Rattle.engine.proofs.next_action.Tie as tie
@@ -8,16 +12,29 @@ use Rattle.engine.proofs.next_action.Tie as tie
 is-formed-requires : tie.Need-is-formed-requires
 is-formed-requires c κs = search needs
 
-next-step-requires : tie.Need-next-step-requires
-next-step-requires c κs = sym (c .before .is-formed .ensures) ∙ c .if1 .taken
+slice-aggregate-advance : tie.Need-slice-aggregate-advance
+slice-aggregate-advance c = search needs
+
+slice-aggregate-advance-2 : tie.Need-slice-aggregate-advance-2
+slice-aggregate-advance-2 c = search needs
+
+advance-requires : tie.Need-advance-requires
+advance-requires c κs = (sym (c .before .before .before .is-formed .ensures) ∙ c .before .before .if1 .taken, formed-few _ _ _ (c .before .before .before .is-formed .ensures) (c .before .before .if1 .taken), omega arith, omega arith, omega arith)
 
 returns : tie.Need-returns
-unfolding outcome check
-returns c = simp (c .before .next-step .ensures, c .before .before .if1 .taken, ← c .before .before .before .is-formed .ensures)
+returns c = next-done _ _ _ _ _ _ _ _ (c .before .before .before .before .before .before .before .is-formed .ensures) (c .before .before .before .before .before .before .if1 .taken) _ (c .before .before .before .advance .ensures) refl
 
 returns-2 : tie.Need-returns-2
 unfolding outcome check
 returns-2 c = simp (c .if1 .left, ← c .before .is-formed .ensures)
 
 pub next-action-spec : {M : Type 1} → statement M
-next-action-spec = tie.close (tie.spec is-formed-requires next-step-requires returns returns-2)
+next-action-spec =
+    tie.close
+    (tie.spec
+    is-formed-requires
+    slice-aggregate-advance
+    slice-aggregate-advance-2
+    advance-requires
+    returns
+    returns-2)

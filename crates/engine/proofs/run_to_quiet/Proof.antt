@@ -1,11 +1,12 @@
 -- `run_to_quiet` meets its contract: the checks in order, then the run.
-use Prim.Native.Nat.{_-_}
-use mathlib.Core.Path.{_≡_, sym, _∙_}
+use borrow.Author.Needs.{needs}
+use mathlib.Core.Path.{_≡_, _∙_, refl, sym}
+use native.Mathlib.Omega.{arith}
 use lib.ListN.{length}
 use borrow.Author.Tests.{le-leb, lt-leb}
+use Rattle.base.proofs.Lists.{length-mapped}
 use Rattle.rules.specs.Calls.{check, outcome}
 use Rattle.settling.proofs.Formed.{formed-few}
-use Rattle.base.proofs.Lists.{length-mapped}
 use Rattle.engine.proofs.Running.{run-done, run-rested}
 use borrow.Author.Needs.{needs}
 use Rattle.engine.proofs.run_to_quiet.Statement.{statement}
@@ -17,8 +18,8 @@ is-formed-requires c κs = search needs
 mul-room : tie.Need-mul-room
 mul-room c = let h = formed-few _ _ _ (c .before .before .is-formed .ensures) (c .before .if1 .taken) in search needs
 
-run-requires : tie.Need-run-requires
-run-requires c κs = let h = formed-few _ _ _ (c .before .before .before .before .before .before .is-formed .ensures) (c .before .before .before .before .before .if1 .taken) in (sym (c .before .before .before .before .before .before .is-formed .ensures) ∙ c .before .before .before .before .before .if1 .taken, h, c .before .before .before .if2 .taken, c .before .before .if3 .taken)
+advance-requires : tie.Need-advance-requires
+advance-requires c κs = let h = formed-few _ _ _ (c .before .before .before .before .before .before .is-formed .ensures) (c .before .before .before .before .before .if1 .taken) in (sym (c .before .before .before .before .before .before .is-formed .ensures) ∙ c .before .before .before .before .before .if1 .taken, h, c .before .before .before .if2 .taken, c .before .before .if3 .taken, omega (arith, h))
 
 same-length : tie.Need-same-length
 same-length c = search needs
@@ -27,7 +28,7 @@ same-length-2 : tie.Need-same-length-2
 same-length-2 c = search needs
 
 returns : tie.Need-returns
-returns c = let z : length (c .before .before .before .before .before .before .before .before .before .before .before .before .before .before .args .x .records) ≡ 32 = search (needs, length-mapped) in (run-done _ _ _ _ _ _ _ _ (c .before .before .before .before .before .before .before .before .before .before .before .is-formed .ensures) (c .before .before .before .before .before .before .before .before .before .before .if1 .taken) (c .before .before .before .before .before .before .before .before .if2 .taken) (c .before .before .before .before .before .before .before .if3 .taken) (c .before .before .before .before .run .ensures), run-rested _ _ _ _ _ _ _ _ z (c .before .before .before .before .before .before .before .before .before .before .before .is-formed .ensures) (c .before .before .before .before .before .before .before .before .before .before .if1 .taken) (c .before .before .before .before .run .ensures))
+returns c = let z : length (c .before .before .before .before .before .before .before .before .before .before .before .before .before .before .before .args .x .records) ≡ 32 = search (needs, length-mapped) in (run-done _ _ _ _ _ _ _ _ (c .before .before .before .before .before .before .before .before .before .before .before .before .is-formed .ensures) (c .before .before .before .before .before .before .before .before .before .before .before .if1 .taken) _ (c .before .before .before .before .before .advance .ensures) refl (c .before .before .before .before .before .before .before .before .before .if2 .taken) (c .before .before .before .before .before .before .before .before .if3 .taken), run-rested _ _ _ _ _ _ _ _ (c .before .before .before .before .before .before .before .before .before .before .before .before .is-formed .ensures) (c .before .before .before .before .before .before .before .before .before .before .before .if1 .taken) _ (c .before .before .before .before .before .advance .ensures) refl z)
 
 refuse-run-requires : tie.Need-refuse-run-requires
 refuse-run-requires c κs = search needs
@@ -56,7 +57,7 @@ run-to-quiet-spec =
     (tie.spec
     is-formed-requires
     mul-room
-    run-requires
+    advance-requires
     same-length
     same-length-2
     returns
