@@ -83,16 +83,16 @@ pub enum Deadline {
 
 pub struct Record {
     pub phase: Phase,
+    pub cause: Cause,
     pub wanted: bool,
     pub aside: bool,
     pub live: bool,
-    pub cause: Cause,
-    pub deadline: Deadline,
     pub killed: bool,
     pub not_before: u64,
     pub last_launch: u64,
     pub window_start: u64,
     pub restarts: u64,
+    pub deadline: Deadline,
 }
 
 pub struct State {
