@@ -1,13 +1,13 @@
 -- A bit of a union, of an intersection, of the empty set, of a power of two and of a set that ends before it.
-use Prim.Native.Nat.{_%_, _*_, _+_, _-_, _/_, _<_, _^_, suc, zero, ℕ}
+use Prim.Native.Nat.{_%_, _*_, _+_, _-_, _/_, _<_, _≤_, _^_, suc, zero, ℕ}
 use borrow.Author.Tests.{eq-eqb, eqb-true, ltb-false, ltb-true}
 use lib.Bits.{and-mod, and-shr, bitAnd, bitOr, or-lt, or-mod, or-shr, shifted-even}
 use lib.Dec.{eqb, ltb}
-use lib.Pow.{pow-add, pow-lt, pow-mono, pow-pos, shl-shr}
+use lib.Pow.{mod-pow-add, pow-add, pow-lt, pow-mono, pow-pos, shl-shr}
 use mathlib.Core.Bool.{_&&_, _||_, false, true}
 use mathlib.Core.Logic.{_↔_}
 use mathlib.Core.Path.{_∙_, _≡_, ap, refl, sym}
-use native.Mathlib.Nat.{div-eq-of-lt, le-of-suc-le-suc, lt-div-mul-add, lt-of-lt-of-le, not-suc-le-zero, one-mul, zero-div}
+use native.Mathlib.Nat.{div-eq-of-lt, le-of-suc-le-suc, lt-div-mul-add, lt-of-le-of-lt, lt-of-lt-of-le, mod-eq-of-lt, mod-one, not-suc-le-zero, one-mul, zero-div}
 use native.Mathlib.Omega.{arith}
 use Rattle.base.specs.Sets.{hasBit, within}
 use Rattle.base.proofs.Tests.{either, not-both, or-not}
@@ -94,3 +94,34 @@ within-power n i l = within-lt n (2 ^ i) .1 (pow-lt l)
 
 pub within-none : (n : ℕ) → within n 0 ≡ true
 within-none n = within-lt n 0 .1 (pow-pos n)
+
+-- sets with the same numbers are the same
+digit-same : (p q : ℕ) → p < 2 → q < 2 → eqb p 1 ≡ eqb q 1 → p ≡ q
+digit-same zero zero h k e = refl
+digit-same (suc zero) (suc zero) h k e = refl
+digit-same zero (suc zero) h k e = absurd (not-both e refl)
+digit-same (suc zero) zero h k e = absurd (not-both (sym e) refl)
+digit-same (suc (suc p)) q h k e = absurd (not-suc-le-zero (le-of-suc-le-suc (le-of-suc-le-suc h)))
+digit-same zero (suc (suc q)) h k e = absurd (not-suc-le-zero (le-of-suc-le-suc (le-of-suc-le-suc k)))
+digit-same (suc zero) (suc (suc q)) h k e = absurd (not-suc-le-zero (le-of-suc-le-suc (le-of-suc-le-suc k)))
+
+low-same : (a b k : ℕ) → ((j : ℕ) → hasBit a j ≡ hasBit b j) → a % 2 ^ k ≡ b % 2 ^ k
+unfolding hasBit
+low-same a b zero h = mod-one a ∙ sym (mod-one b)
+low-same a b (suc k) h =
+    let e : suc k ≡ 1 + k = omega arith in
+    let d : a / 2 ^ k % 2 ≡ b / 2 ^ k % 2 = digit-same (a / 2 ^ k % 2) (b / 2 ^ k % 2) (omega arith) (omega arith) (h k) in
+    rw (e, mod-pow-add a 1 k, mod-pow-add b 1 k, low-same a b k h, d)
+
+below-power : (n : ℕ) → n < 2 ^ n
+below-power zero = omega arith
+below-power (suc n) =
+    let h = below-power n in
+    let e : 2 ^ suc n ≡ 2 * 2 ^ n = ap (λ k. 2 ^ k) (let s : suc n ≡ 1 + n = omega arith in s) ∙ pow-add 2 1 n in
+    omega (arith, h, e)
+
+pub same-bits : (a b : ℕ) → ((j : ℕ) → hasBit a j ≡ hasBit b j) → a ≡ b
+same-bits a b h =
+    let k = a + b in
+    let below : (n : ℕ) → n ≤ k → n < 2 ^ k = λ n l. lt-of-le-of-lt l (below-power k) in
+    sym (mod-eq-of-lt (below a (omega arith))) ∙ low-same a b k h ∙ mod-eq-of-lt (below b (omega arith))

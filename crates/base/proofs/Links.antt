@@ -8,11 +8,12 @@ use mathlib.Core.Logic.{_↔_, _⊎_, inl, inr}
 use lib.Bits.{bitOr}
 use Rattle.base.specs.Folds.{pick}
 use Rattle.base.specs.Sets.{hasBit}
-use Rattle.base.specs.Links.{Path, link, on, reach, cyclic}
+use Rattle.base.specs.Links.{Path, link, on, reach, through, cyclic}
 use Rattle.base.proofs.Tests.{and-true, or-true, either, not-both}
 use Rattle.base.proofs.Below.{some-true}
 use Rattle.base.proofs.Bits.{hasBit-or}
 
+-- what is in a set that was joined with another where it has k
 through-bit : (q : Bool) (a b j : ℕ) → hasBit (pick q (bitOr a b) a) j ≡ (hasBit a j || (q && hasBit b j))
 through-bit true a b j = hasBit-or a b j
 through-bit false a b j = or-none (hasBit a j)
@@ -20,6 +21,22 @@ through-bit false a b j = or-none (hasBit a j)
     or-none : (x : Bool) → x ≡ (x || false)
     or-none true = refl
     or-none false = refl
+
+module _ (k a b j : ℕ) where
+  pub through-kept : hasBit a j ≡ true → hasBit (through k a b) j ≡ true
+  through-kept e = through-bit (hasBit a k) a b j ∙ or-true (hasBit a j) (hasBit a k && hasBit b j) .1 (inl e)
+
+  pub through-joined : hasBit a k ≡ true → hasBit b j ≡ true → hasBit (through k a b) j ≡ true
+  through-joined e f =
+      through-bit (hasBit a k) a b j
+      ∙ or-true (hasBit a j) (hasBit a k && hasBit b j) .1 (inr (and-true (hasBit a k) (hasBit b j) .1 (e, f)))
+
+  pub through-only : hasBit (through k a b) j ≡ true → (hasBit a j ≡ true) ⊎ ((hasBit a k ≡ true) × (hasBit b j ≡ true))
+  through-only e =
+      either
+      (or-true (hasBit a j) (hasBit a k && hasBit b j) .0 (sym (through-bit (hasBit a k) a b j) ∙ e))
+      (λ f. inl f)
+      (λ f. inr (and-true (hasBit a k) (hasBit b j) .0 f))
 
 module _ (d : ℕ → ℕ) where
   -- i reaches j through numbers below k
@@ -29,14 +46,8 @@ module _ (d : ℕ → ℕ) where
   step : (k i j : ℕ) → (R (suc k) i j ≡ true) ↔ ((R k i j ≡ true) ⊎ ((R k i k ≡ true) × (R k k j ≡ true)))
   unfolding reach
   step k i j = (
-    λ e.
-        either
-        (or-true (R k i j) (R k i k && R k k j) .0 (sym (through-bit (R k i k) (reach d k i) (reach d k k) j) ∙ e))
-        (λ a. inl a)
-        (λ a. inr (and-true (R k i k) (R k k j) .0 a)),
-    λ w.
-        through-bit (R k i k) (reach d k i) (reach d k k) j
-        ∙ or-true (R k i j) (R k i k && R k k j) .1 (either w (λ a. inl a) (λ a. inr (and-true (R k i k) (R k k j) .1 a))),
+    through-only k (reach d k i) (reach d k k) j,
+    λ w. either w (through-kept k (reach d k i) (reach d k k) j) (λ h. through-joined k (reach d k i) (reach d k k) j (h .0) (h .1)),
   )
 
   -- a link is reached
@@ -75,7 +86,8 @@ module _ (d : ℕ → ℕ) where
           step k i j .1
           (inr (e₂ .0, either (step k a j .0 f) (λ f₁. on′ k a j m (e₂ .1) f₁) (λ f₂. f₂ .1))))
 
-  reach-on : (k : ℕ) → On k
+  -- and so through any number below k
+  pub reach-on : (k : ℕ) → On k
   reach-on zero i a j l e f = absurd (not-suc-le-zero l)
   reach-on (suc k) i a j l e f = on-more k (reach-on k) i a j l e f
 

@@ -77,11 +77,10 @@ cyclic-as d e n h =
     some-as (λ i. hasBit (reach d n i) i) (λ i. hasBit (reach e n i) i) n
     (λ i l. ap (λ m. hasBit m i) (reach-as d e n h n i (omega arith) l))
 
--- the row of s, where there is one
-module _ (rows all : List ℕ) (n s : ℕ) where
-  pub row-reached : Filled 0 (reach (rowsAs rows) n) 32 all n → n ≤ 32 → s < n
-      → getD all s 0 ≡ pick (leb n mostRows && ltb s n) (reach (rowsAs rows) n s) 0
-  row-reached f l k = f .at s k ∙ rw (le-leb n 32 l, lt-ltb s n k)
+-- what s reaches, where there is such a row; m is what the code found
+module _ (rows : List ℕ) (n s : ℕ) where
+  pub row-reached : (m : ℕ) → m ≡ reach (rowsAs rows) n s → n ≤ 32 → s < n → m ≡ pick (leb n mostRows && ltb s n) (reach (rowsAs rows) n s) 0
+  row-reached m e l k = e ∙ rw (le-leb n 32 l, lt-ltb s n k)
 
   pub row-past : n ≤ 32 → n ≤ s → 0 ≡ pick (leb n mostRows && ltb s n) (reach (rowsAs rows) n s) 0
   row-past l k = rw (le-leb n 32 l, le-ltb s n k)

@@ -11,6 +11,7 @@ ghost use Rattle.base.specs.Sets.{hasBit};
 ghost use Rattle.base.specs.Links.{through, reach, cyclic};
 ghost use Rattle.base.proofs.Filled.{Filled};
 ghost use Rattle.reach.specs.Rows.{rowsAs, mostRows};
+ghost use Rattle.reach.specs.Spreading.{wide};
 ghost use Rattle.reach.specs.Peeling.{subset, grown, Grounded, Peeling, AllSafe};
 
 // The most rows.
@@ -143,15 +144,41 @@ pub fn has_cycle(n: usize, rows: [u64; MAX_ROWS]) -> bool
     false
 }
 
+// The set with all that each number of it is linked to, in one pass over the numbers below n.
+fn widened(n: usize, rows: &[u64; MAX_ROWS], m: u64) -> u64
+    requires { ⌜ n ≤ 32 ⌝ }
+    ensures { λ w. ⌜ w ≡ wide (now (rows .entry)) m n ⌝ }
+{
+    let mut all = m;
+    let mut i: usize = 0;
+    while i < n {
+        all = joined(i, all, rows[i]);
+        i += 1;
+    }
+    all
+}
+
+// What s reaches: its row, widened until a pass adds nothing. As numbers the sets only grow.
+fn spread(n: usize, rows: &[u64; MAX_ROWS], s: usize) -> u64
+    requires { ⌜ (n ≤ 32) × (s < n) ⌝ }
+    ensures { λ m. ⌜ m ≡ reach (rowsAs (now (rows .entry))) n s ⌝ }
+{
+    let mut m = rows[s];
+    let mut wider = widened(n, rows, m);
+    while m < wider {
+        m = wider;
+        wider = widened(n, rows, m);
+    }
+    m
+}
+
 // What the number s reaches, or the empty set where there is no such row.
 pub fn reach_of(n: usize, rows: [u64; MAX_ROWS], s: usize) -> u64
     ensures { λ m. ⌜ m ≡ pick (leb n mostRows && ltb s n) (reach (rowsAs rows) n s) 0 ⌝ }
 {
     if n <= MAX_ROWS {
         if s < n {
-            let mut all = rows;
-            reached(n, &mut all);
-            return all[s];
+            return spread(n, &rows, s);
         }
         return 0;
     }

@@ -1,0 +1,54 @@
+-- `spread` meets its contract: a set of what s reaches, which holds its row.
+use borrow.Author.Needs.{needs}
+use Prim.Native.Nat.{_-_}
+use mathlib.Core.Path.{refl}
+use Rattle.base.specs.Links.{reach}
+use Rattle.reach.specs.Rows.{rowsAs}
+use Rattle.reach.proofs.Spreading.{Spreading, spreading-none, spreading-more, spreading-less, spreading-all}
+use Rattle.reach.proofs.spread.Statement.{statement}
+use Rattle.reach.proofs.spread.Tie as tie
+
+abbrev Inv-loop : tie.InvT-loop
+Inv-loop n rows s m₀ wider₀ m wider = Spreading rows n s m wider
+
+abbrev μ-loop : tie.MeasureT-loop
+μ-loop n rows s m₀ wider₀ m wider = reach (rowsAs rows) n s - m
+
+mul-m : tie.Need-mul-m Inv-loop μ-loop
+mul-m c = search needs
+
+element-copy-out-m : tie.Need-element-copy-out-m Inv-loop μ-loop
+element-copy-out-m c = search needs
+
+widened-requires : tie.Need-widened-requires Inv-loop μ-loop
+widened-requires c κs = search needs
+
+loop-holds : tie.Need-loop-holds Inv-loop μ-loop
+loop-holds c = spreading-none refl (c .widened .ensures)
+
+widened-requires-2 : tie.Need-widened-requires-2 Inv-loop μ-loop
+widened-requires-2 c κs = search needs
+
+loop-less : tie.Need-loop-less Inv-loop μ-loop
+loop-less c = spreading-less (c .before .before .loop .inv) (c .before .loop-test .taken)
+
+loop-again : tie.Need-loop-again Inv-loop μ-loop
+loop-again c = spreading-more (c .before .before .loop .inv) (c .widened2 .ensures)
+
+returns : tie.Need-returns Inv-loop μ-loop
+returns c = spreading-all (c .before .loop .inv) (c .loop-test .left)
+
+pub spread-spec : {M : Type 1} → statement M
+spread-spec =
+    tie.close
+    (tie.spec
+    Inv-loop
+    μ-loop
+    mul-m
+    element-copy-out-m
+    widened-requires
+    loop-holds
+    widened-requires-2
+    loop-less
+    loop-again
+    returns)

@@ -1,0 +1,53 @@
+-- `widened` meets its contract: the numbers below i have brought in their links.
+use borrow.Author.Needs.{needs}
+use Prim.Native.Nat.{_-_}
+use Rattle.base.specs.Links.{through}
+use Rattle.base.proofs.Loops.{Folded, folded-none, folded-more, folded-all}
+use Rattle.reach.specs.Rows.{rowsAs}
+use Rattle.reach.proofs.widened.Statement.{statement}
+use Rattle.reach.proofs.widened.Tie as tie
+
+abbrev Inv-loop : tie.InvT-loop
+Inv-loop n rows m all₀ i₀ all i = Folded (λ a j. through j a (rowsAs rows j)) all₀ n all i
+
+abbrev μ-loop : tie.MeasureT-loop
+μ-loop n rows m all₀ i₀ all i = n - i
+
+loop-holds : tie.Need-loop-holds Inv-loop μ-loop
+loop-holds c = folded-none
+
+mul-joined : tie.Need-mul-joined Inv-loop μ-loop
+mul-joined c = search needs
+
+element-copy-out-joined : tie.Need-element-copy-out-joined Inv-loop μ-loop
+element-copy-out-joined c = search needs
+
+joined-requires : tie.Need-joined-requires Inv-loop μ-loop
+joined-requires c κs = search needs
+
+add-i : tie.Need-add-i Inv-loop μ-loop
+add-i c = search needs
+
+loop-less : tie.Need-loop-less Inv-loop μ-loop
+loop-less c = search needs
+
+loop-again : tie.Need-loop-again Inv-loop μ-loop
+loop-again c = search folded-more
+
+returns : tie.Need-returns Inv-loop μ-loop
+returns c = search folded-all
+
+pub widened-spec : {M : Type 1} → statement M
+widened-spec =
+    tie.close
+    (tie.spec
+    Inv-loop
+    μ-loop
+    loop-holds
+    mul-joined
+    element-copy-out-joined
+    joined-requires
+    add-i
+    loop-less
+    loop-again
+    returns)
