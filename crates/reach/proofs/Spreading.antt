@@ -2,14 +2,14 @@
 use Prim.Native.Nat.{ℕ, zero, suc, _-_, _<_, _≤_}
 use native.Mathlib.Nat.{eq-or-lt-of-le, le-of-suc-le-suc, le-trans, not-suc-le-zero}
 use native.Mathlib.Omega.{arith}
-use mathlib.Core.Path.{_≡_, _∙_, ap, refl, subst, sym}
+use mathlib.Core.Path.{_≡_, _∙_, refl, subst, sym}
 use mathlib.Core.Bool.{Bool, true, false, _||_}
 use mathlib.Core.Logic.{inr}
 use mathlib.Core.List.{List}
 use lib.Bits.{and-le-r, bitOr, or-add-and}
-use Rattle.base.specs.Folds.{fold, pick}
+use Rattle.base.specs.Folds.{pick}
 use Rattle.base.specs.Sets.{hasBit}
-use Rattle.base.specs.Links.{reach, through}
+use Rattle.base.specs.Links.{reach}
 use Rattle.base.proofs.Tests.{either, or-true}
 use Rattle.base.proofs.Bits.{hasBit-or, same-bits}
 use Rattle.base.proofs.Links.{reach-link, reach-on, through-joined, through-kept, through-only}
