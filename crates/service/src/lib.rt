@@ -81,6 +81,8 @@ pub enum Deadline {
     At(u64),
 }
 
+// One service's place in the state. The fields stand by size, the deadline last: so a record takes 56 bytes, and the loops over records
+// load none that spans a store just made.
 pub struct Record {
     pub phase: Phase,
     pub cause: Cause,

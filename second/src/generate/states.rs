@@ -265,6 +265,21 @@ fn set_number(set: &ServiceSet) -> u64 {
     set.members().into_iter().map(|member| 2u64.pow(member as u32)).sum()
 }
 
+/// One dependency more, and the line that takes it back.
+fn put_dependency(
+    builder: &mut Builder,
+    table: &Table,
+    service: u64,
+    kind: Kind,
+    member: usize,
+) -> Vec<String> {
+    let before = set_number(table.services[service as usize].dependencies(kind));
+    let mut set = ServiceSet::from_number(before);
+    set.holds[member] = true;
+    builder.push(&format!("table {service} {} {}", kind.word(), set_number(&set)));
+    vec![format!("table {service} {} {before}", kind.word())]
+}
+
 /// A dependency on the first number that is no service, on the last, or on the
 /// last service.
 fn put_far_dependency(
@@ -274,12 +289,8 @@ fn put_far_dependency(
     service: u64,
 ) -> Vec<String> {
     let kind = *random.pick(&Kind::ALL);
-    let before = set_number(table.services[service as usize].dependencies(kind));
-    let member = *random.pick(&[table.count, table.count - 1, 31, 32, 63]) as u32;
-    let mut set = ServiceSet::from_number(before);
-    set.holds[member as usize] = true;
-    builder.push(&format!("table {service} {} {}", kind.word(), set_number(&set)));
-    vec![format!("table {service} {} {before}", kind.word())]
+    let member = *random.pick(&[table.count, table.count - 1, 31, 32, 63]);
+    put_dependency(builder, table, service, kind, member)
 }
 
 /// A dependency on itself, or back from one that depends on it.
@@ -290,7 +301,6 @@ fn put_cycle(
     service: u64,
 ) -> Vec<String> {
     let kind = *random.pick(&Kind::ALL);
-    let before = set_number(table.services[service as usize].dependencies(kind));
     let dependents: Vec<usize> = table
         .numbers()
         .filter(|other| table.services[*other].depends_by_any_kind(service as usize))
@@ -299,10 +309,7 @@ fn put_cycle(
         [] => service as usize,
         some => *random.pick(some),
     };
-    let mut set = ServiceSet::from_number(before);
-    set.holds[member] = true;
-    builder.push(&format!("table {service} {} {}", kind.word(), set_number(&set)));
-    vec![format!("table {service} {} {before}", kind.word())]
+    put_dependency(builder, table, service, kind, member)
 }
 
 fn put_setting(
