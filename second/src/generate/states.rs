@@ -289,7 +289,7 @@ fn put_far_dependency(
     service: u64,
 ) -> Vec<String> {
     let kind = *random.pick(&Kind::ALL);
-    let member = *random.pick(&[table.count, table.count - 1, 31, 32, 63]);
+    let member = *random.pick(&[table.count, table.count - 1, 31, 32, 63]) as usize;
     put_dependency(builder, table, service, kind, member)
 }
 
