@@ -1,17 +1,53 @@
-// The answers to the calls, as lines.
-use crate::names::SIGNALS;
+// The answers to the calls, as texts with their numbers.
+use crate::loading::is_load;
 use crate::names::signal_number;
-use crate::output::put_bytes;
-use crate::output::put_number;
-use crate::output::put_numbered;
-use crate::words::word;
+use crate::reading::BAD;
+use crate::texts::BAD_LINE;
+use crate::texts::EARLIEST;
+use crate::texts::LAUNCH;
+use crate::texts::LOAD_REFUSED;
+use crate::texts::MOVED;
+use crate::texts::NO_EARLIEST;
+use crate::texts::OK;
+use crate::texts::OK_COUNT;
+use crate::texts::QUIET;
+use crate::texts::REFUSED;
+use crate::texts::RUN_COUNT;
+use crate::texts::SET_CLOCK;
+use crate::texts::SET_TABLE_LAST;
+use crate::texts::SIGNAL;
+use crate::texts::STOP_COMMAND;
+use lent::Answer;
+use loader::Loaded;
 use service::Action;
 use service::ActionAnswer;
 use service::Deadline;
 use service::EventAnswer;
 use service::QueryAnswer;
 use service::Refusal;
-use service::Signal;
+use service::RunAnswer;
+
+// An answer: the place of its text, and up to three numbers.
+pub(crate) type Reply = [u64; 4];
+
+// In the place of a text: there is no answer.
+pub(crate) const SILENT: usize = 0;
+
+// Makes an answer.
+fn reply_all(reply: &mut Reply, text: usize, first: u64, second: u64, third: u64) {
+    reply[0] = text as u64;
+    reply[1] = first;
+    reply[2] = second;
+    reply[3] = third;
+}
+
+fn reply_text(reply: &mut Reply, text: usize) {
+    reply_all(reply, text, 0, 0, 0);
+}
+
+fn reply_number(reply: &mut Reply, text: usize, n: u64) {
+    reply_all(reply, text, n, 0, 0);
+}
 
 fn refusal_number(refusal: Refusal) -> u64 {
     match refusal {
@@ -24,86 +60,93 @@ fn refusal_number(refusal: Refusal) -> u64 {
     }
 }
 
-pub fn put_refusal(out: &mut [u8], at: usize, refusal: Refusal) -> usize {
-    let to = put_numbered(out, at, b"refused ", refusal_number(refusal));
-    put_bytes(out, to, b"\n")
+fn reply_refusal(reply: &mut Reply, refusal: Refusal) {
+    reply_number(reply, REFUSED, refusal_number(refusal));
 }
 
-pub fn put_event(out: &mut [u8], at: usize, answer: EventAnswer) -> usize {
+pub(crate) fn reply_event(reply: &mut Reply, answer: EventAnswer) {
     match answer {
-        EventAnswer::Done => put_bytes(out, at, b"ok\n"),
-        EventAnswer::Refused(refusal) => put_refusal(out, at, refusal),
+        EventAnswer::Done => reply_text(reply, OK),
+        EventAnswer::Refused(refusal) => reply_refusal(reply, refusal),
     }
 }
 
-// A signal by its place in the list.
-fn put_signal(out: &mut [u8], at: usize, service: u64, place: usize) -> usize {
-    let named = put_numbered(out, at, b"signal ", service);
-    let parted = put_bytes(out, named, b" ");
-    put_bytes(out, parted, word(&SIGNALS, place))
+// An action by its text, its service and its signal.
+fn reply_act(reply: &mut Reply, text: usize, service: usize, signal: u64) {
+    reply_all(reply, text, service as u64, signal, 0);
 }
 
-fn put_action(out: &mut [u8], at: usize, action: Action) -> usize {
+fn reply_action(reply: &mut Reply, action: Action) {
     match action {
-        Action::Quiet => put_bytes(out, at, b"quiet"),
-        Action::Moved(s) => put_numbered(out, at, b"moved ", s as u64),
-        Action::Launch(s) => put_numbered(out, at, b"launch ", s as u64),
-        Action::StopCommand(s) => put_numbered(out, at, b"stop-command ", s as u64),
-        Action::Signal(s, signal) => put_signal(out, at, s as u64, signal_number(signal)),
+        Action::Quiet => reply_text(reply, QUIET),
+        Action::Moved(s) => reply_act(reply, MOVED, s, 0),
+        Action::Launch(s) => reply_act(reply, LAUNCH, s, 0),
+        Action::StopCommand(s) => reply_act(reply, STOP_COMMAND, s, 0),
+        Action::Signal(s, signal) => reply_act(reply, SIGNAL, s, signal_number(signal)),
     }
 }
 
-pub fn put_next(out: &mut [u8], at: usize, answer: ActionAnswer) -> usize {
+pub(crate) fn reply_next(reply: &mut Reply, answer: ActionAnswer) {
     match answer {
-        ActionAnswer::Act(action) => {
-            let to = put_action(out, at, action);
-            put_bytes(out, to, b"\n")
-        }
-        ActionAnswer::Refused(refusal) => put_refusal(out, at, refusal),
+        ActionAnswer::Act(action) => reply_action(reply, action),
+        ActionAnswer::Refused(refusal) => reply_refusal(reply, refusal),
     }
 }
 
-// An action of a run, by its number.
-fn put_numbered_action(out: &mut [u8], at: usize, service: u64, action: u64) -> usize {
-    match action {
-        0 => put_numbered(out, at, b"moved ", service),
-        1 => put_numbered(out, at, b"launch ", service),
-        2 => put_numbered(out, at, b"stop-command ", service),
-        _ => put_signal(out, at, service, (action - 3) as usize),
-    }
-}
-
-fn number_at(numbers: &[u64], i: usize) -> u64 {
-    if i < numbers.len() { numbers[i] } else { 0 }
-}
-
-// A run's line: how many actions there were, and each of them.
-pub fn put_run(
-    out: &mut [u8],
-    at: usize,
-    count: usize,
-    services: &[u64],
-    actions: &[u64],
-) -> usize {
-    let mut to = put_numbered(out, at, b"run ", count as u64);
-    let mut i: usize = 0;
-    while i < count {
-        to = put_bytes(out, to, b"; ");
-        to = put_numbered_action(out, to, number_at(services, i), number_at(actions, i));
-        i += 1;
-    }
-    put_bytes(out, to, b"\n")
-}
-
-pub fn put_query(out: &mut [u8], at: usize, answer: QueryAnswer) -> usize {
+// The answer to a run, whose actions are listed elsewhere.
+pub(crate) fn reply_run(reply: &mut Reply, answer: RunAnswer) {
     match answer {
-        QueryAnswer::Earliest(earliest) => match earliest {
-            Deadline::None => put_bytes(out, at, b"none\n"),
-            Deadline::At(time) => {
-                let to = put_numbered(out, at, b"at ", time);
-                put_bytes(out, to, b"\n")
-            }
-        },
-        QueryAnswer::Refused(refusal) => put_refusal(out, at, refusal),
+        RunAnswer::Ran(count) => reply_act(reply, RUN_COUNT, count, 0),
+        RunAnswer::Refused(refusal) => reply_refusal(reply, refusal),
+    }
+}
+
+fn reply_earliest(reply: &mut Reply, earliest: Deadline) {
+    match earliest {
+        Deadline::None => reply_text(reply, NO_EARLIEST),
+        Deadline::At(time) => reply_number(reply, EARLIEST, time),
+    }
+}
+
+pub(crate) fn reply_query(reply: &mut Reply, answer: QueryAnswer) {
+    match answer {
+        QueryAnswer::Earliest(earliest) => reply_earliest(reply, earliest),
+        QueryAnswer::Refused(refusal) => reply_refusal(reply, refusal),
+    }
+}
+
+// The answer to a load of so many services.
+fn reply_load(reply: &mut Reply, answer: Answer, count: usize) {
+    match answer {
+        Answer::Accepted => reply_act(reply, OK_COUNT, count, 0),
+        Answer::Refused {
+            number,
+            service,
+            line,
+        } => reply_all(
+            reply,
+            LOAD_REFUSED,
+            number as u64,
+            service as u64,
+            line as u64,
+        ),
+    }
+}
+
+fn reply_loaded(reply: &mut Reply, loaded: Loaded) {
+    let answer = loaded.answer;
+    let t = loaded.table;
+    reply_load(reply, answer, t.count);
+}
+
+// The answer to a line that is no call, of this number; none to one that is.
+pub(crate) fn reply_line(reply: &mut Reply, verb: usize, loaded: Loaded, number: u64) {
+    if is_load(verb) {
+        return reply_loaded(reply, loaded);
+    }
+    match verb {
+        SET_CLOCK..=SET_TABLE_LAST => reply_text(reply, OK),
+        BAD => reply_number(reply, BAD_LINE, number),
+        _ => reply_text(reply, SILENT),
     }
 }

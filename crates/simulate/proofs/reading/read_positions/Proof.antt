@@ -1,13 +1,11 @@
 -- `read_positions` is safe and ends: it counts up to the number of words.
 use borrow.Author.Needs.{needs}
-use mathlib.Core.Path.{_≡_}
 use Prim.Native.Nat.{_-_, _≤_}
-use lib.ListN.{length}
-use Rattle.simulate.proofs.command.read_positions.Statement.{statement}
-use Rattle.simulate.proofs.command.read_positions.Tie as tie
+use Rattle.simulate.proofs.reading.read_positions.Statement.{statement}
+use Rattle.simulate.proofs.reading.read_positions.Tie as tie
 
 abbrev Inv-loop : tie.InvT-loop
-Inv-loop line count positions₀ k₀ positions k = (2 ≤ k) × (length positions ≡ length positions₀)
+Inv-loop line count positions₀ k₀ positions k = 2 ≤ k
 
 abbrev μ-loop : tie.MeasureT-loop
 μ-loop line count positions₀ k₀ positions k = count - k
@@ -23,11 +21,7 @@ read-positions-spec =
     (λ c κs. search needs)
     (λ c. search needs)
     (λ c. search needs)
-    (λ c. search needs)
-    (λ c. search needs)
-    (λ c. search needs)
     (λ c κs. search needs)
-    (λ c. search needs)
     (λ c. search needs)
     (λ c. search needs)
     (λ c. search needs)

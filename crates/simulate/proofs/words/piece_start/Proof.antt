@@ -1,18 +1,18 @@
--- `word_start` is safe and ends: what is left of the line falls.
+-- `piece_start` is safe and ends: what is left of the text falls.
 use borrow.Author.Needs.{needs}
 use Prim.Native.Nat.{_-_, _≤_}
 use lib.ListN.{length}
-use Rattle.simulate.proofs.words.word_start.Statement.{statement}
-use Rattle.simulate.proofs.words.word_start.Tie as tie
+use Rattle.simulate.proofs.words.piece_start.Statement.{statement}
+use Rattle.simulate.proofs.words.piece_start.Tie as tie
 
 abbrev Inv-loop : tie.InvT-loop
-Inv-loop line k left₀ at₀ left at = at ≤ length line
+Inv-loop text parting k left₀ at₀ left at = at ≤ length text
 
 abbrev μ-loop : tie.MeasureT-loop
-μ-loop line k left₀ at₀ left at = length line - at
+μ-loop text parting k left₀ at₀ left at = length text - at
 
-pub word-start-spec : {M : Type 1} → statement M
-word-start-spec =
+pub piece-start-spec : {M : Type 1} → statement M
+piece-start-spec =
     tie.close
     (tie.spec
     Inv-loop

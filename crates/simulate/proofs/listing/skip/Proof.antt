@@ -2,8 +2,8 @@
 use borrow.Author.Needs.{needs}
 use Prim.Native.Nat.{_-_, _≤_}
 use lib.ListN.{length}
-use Rattle.simulate.proofs.loading.skip.Statement.{statement}
-use Rattle.simulate.proofs.loading.skip.Tie as tie
+use Rattle.simulate.proofs.listing.skip.Statement.{statement}
+use Rattle.simulate.proofs.listing.skip.Tie as tie
 
 abbrev Inv-loop : tie.InvT-loop
 Inv-loop tokens at count left₀ to₀ left to = at ≤ to

@@ -1,8 +1,8 @@
 -- `token_bytes` is safe and ends: it counts up to the most services.
 use borrow.Author.Needs.{needs}
 use Prim.Native.Nat.{_-_, _≤_}
-use Rattle.simulate.proofs.loading.token_bytes.Statement.{statement}
-use Rattle.simulate.proofs.loading.token_bytes.Tie as tie
+use Rattle.simulate.proofs.listing.token_bytes.Statement.{statement}
+use Rattle.simulate.proofs.listing.token_bytes.Tie as tie
 
 abbrev Inv-loop : tie.InvT-loop
 Inv-loop tokens commands at₀ s₀ at s = s ≤ 32
@@ -19,7 +19,6 @@ token-bytes-spec =
     (λ c. search needs)
     (λ c. search needs)
     (λ c. search needs)
-    (λ c κs. search needs)
     (λ c κs. search needs)
     (λ c. search needs)
     (λ c. search needs)

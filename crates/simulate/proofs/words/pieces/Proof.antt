@@ -1,18 +1,18 @@
--- `words` is safe and ends: what is left of the line falls.
+-- `pieces` is safe and ends: what is left of the text falls.
 use borrow.Author.Needs.{needs}
 use Prim.Native.Nat.{_+_, _-_, _≤_}
 use lib.ListN.{length}
-use Rattle.simulate.proofs.words.words.Statement.{statement}
-use Rattle.simulate.proofs.words.words.Tie as tie
+use Rattle.simulate.proofs.words.pieces.Statement.{statement}
+use Rattle.simulate.proofs.words.pieces.Tie as tie
 
 abbrev Inv-loop : tie.InvT-loop
-Inv-loop line count₀ at₀ count at = (at ≤ length line) × (count ≤ at + 1)
+Inv-loop text parting count₀ at₀ count at = (at ≤ length text) × (count ≤ at + 1)
 
 abbrev μ-loop : tie.MeasureT-loop
-μ-loop line count₀ at₀ count at = length line - at
+μ-loop text parting count₀ at₀ count at = length text - at
 
-pub words-spec : {M : Type 1} → statement M
-words-spec =
+pub pieces-spec : {M : Type 1} → statement M
+pieces-spec =
     tie.close
     (tie.spec
     Inv-loop
