@@ -1,5 +1,4 @@
 // The answers to the calls, as texts with their numbers.
-use crate::loading::is_load;
 use crate::names::signal_number;
 use crate::reading::BAD;
 use crate::texts::BAD_LINE;
@@ -18,7 +17,6 @@ use crate::texts::SET_TABLE_LAST;
 use crate::texts::SIGNAL;
 use crate::texts::STOP_COMMAND;
 use lent::Answer;
-use loader::Loaded;
 use service::Action;
 use service::ActionAnswer;
 use service::Deadline;
@@ -28,125 +26,124 @@ use service::Refusal;
 use service::RunAnswer;
 
 // An answer: the place of its text, and up to three numbers.
-pub(crate) type Reply = [u64; 4];
+pub(crate) struct Reply {
+    pub(crate) text: usize,
+    pub(crate) first: u64,
+    pub(crate) second: u64,
+    pub(crate) third: u64,
+}
+
+// The same in numbers, as it is lent.
+pub(crate) type ReplyLine = [u64; 4];
 
 // In the place of a text: there is no answer.
 pub(crate) const SILENT: usize = 0;
 
-// Makes an answer.
-fn reply_all(reply: &mut Reply, text: usize, first: u64, second: u64, third: u64) {
-    reply[0] = text as u64;
-    reply[1] = first;
-    reply[2] = second;
-    reply[3] = third;
+pub(crate) fn keep_reply(line: &mut ReplyLine, reply: Reply) {
+    line[0] = reply.text as u64;
+    line[1] = reply.first;
+    line[2] = reply.second;
+    line[3] = reply.third;
 }
 
-fn reply_text(reply: &mut Reply, text: usize) {
-    reply_all(reply, text, 0, 0, 0);
-}
-
-fn reply_number(reply: &mut Reply, text: usize, n: u64) {
-    reply_all(reply, text, n, 0, 0);
-}
-
-fn refusal_number(refusal: Refusal) -> u64 {
-    match refusal {
-        Refusal::IllFormed => 24,
-        Refusal::NoService => 20,
-        Refusal::NotLive => 21,
-        Refusal::ClockBack => 22,
-        Refusal::ClockPast => 23,
-        Refusal::NoRoom => 25,
+fn numbered(text: usize, first: u64) -> Reply {
+    Reply {
+        text,
+        first,
+        second: 0,
+        third: 0,
     }
 }
 
-fn reply_refusal(reply: &mut Reply, refusal: Refusal) {
-    reply_number(reply, REFUSED, refusal_number(refusal));
+fn refused(refusal: Refusal) -> Reply {
+    match refusal {
+        Refusal::IllFormed => numbered(REFUSED, 24),
+        Refusal::NoService => numbered(REFUSED, 20),
+        Refusal::NotLive => numbered(REFUSED, 21),
+        Refusal::ClockBack => numbered(REFUSED, 22),
+        Refusal::ClockPast => numbered(REFUSED, 23),
+        Refusal::NoRoom => numbered(REFUSED, 25),
+    }
 }
 
-pub(crate) fn reply_event(reply: &mut Reply, answer: EventAnswer) {
+pub(crate) fn event_reply(answer: EventAnswer) -> Reply {
     match answer {
-        EventAnswer::Done => reply_text(reply, OK),
-        EventAnswer::Refused(refusal) => reply_refusal(reply, refusal),
+        EventAnswer::Done => numbered(OK, 0),
+        EventAnswer::Refused(refusal) => refused(refusal),
     }
 }
 
 // An action by its text, its service and its signal.
-fn reply_act(reply: &mut Reply, text: usize, service: usize, signal: u64) {
-    reply_all(reply, text, service as u64, signal, 0);
-}
-
-fn reply_action(reply: &mut Reply, action: Action) {
-    match action {
-        Action::Quiet => reply_text(reply, QUIET),
-        Action::Moved(s) => reply_act(reply, MOVED, s, 0),
-        Action::Launch(s) => reply_act(reply, LAUNCH, s, 0),
-        Action::StopCommand(s) => reply_act(reply, STOP_COMMAND, s, 0),
-        Action::Signal(s, signal) => reply_act(reply, SIGNAL, s, signal_number(signal)),
+fn act(text: usize, service: usize, signal: u64) -> Reply {
+    Reply {
+        text,
+        first: service as u64,
+        second: signal,
+        third: 0,
     }
 }
 
-pub(crate) fn reply_next(reply: &mut Reply, answer: ActionAnswer) {
+fn action_reply(action: Action) -> Reply {
+    match action {
+        Action::Quiet => act(QUIET, 0, 0),
+        Action::Moved(s) => act(MOVED, s, 0),
+        Action::Launch(s) => act(LAUNCH, s, 0),
+        Action::StopCommand(s) => act(STOP_COMMAND, s, 0),
+        Action::Signal(s, signal) => act(SIGNAL, s, signal_number(signal)),
+    }
+}
+
+pub(crate) fn next_reply(answer: ActionAnswer) -> Reply {
     match answer {
-        ActionAnswer::Act(action) => reply_action(reply, action),
-        ActionAnswer::Refused(refusal) => reply_refusal(reply, refusal),
+        ActionAnswer::Act(action) => action_reply(action),
+        ActionAnswer::Refused(refusal) => refused(refusal),
     }
 }
 
 // The answer to a run, whose actions are listed elsewhere.
-pub(crate) fn reply_run(reply: &mut Reply, answer: RunAnswer) {
+pub(crate) fn run_reply(answer: RunAnswer) -> Reply {
     match answer {
-        RunAnswer::Ran(count) => reply_act(reply, RUN_COUNT, count, 0),
-        RunAnswer::Refused(refusal) => reply_refusal(reply, refusal),
+        RunAnswer::Ran(count) => act(RUN_COUNT, count, 0),
+        RunAnswer::Refused(refusal) => refused(refusal),
     }
 }
 
-fn reply_earliest(reply: &mut Reply, earliest: Deadline) {
+fn earliest_reply(earliest: Deadline) -> Reply {
     match earliest {
-        Deadline::None => reply_text(reply, NO_EARLIEST),
-        Deadline::At(time) => reply_number(reply, EARLIEST, time),
+        Deadline::None => numbered(NO_EARLIEST, 0),
+        Deadline::At(time) => numbered(EARLIEST, time),
     }
 }
 
-pub(crate) fn reply_query(reply: &mut Reply, answer: QueryAnswer) {
+pub(crate) fn query_reply(answer: QueryAnswer) -> Reply {
     match answer {
-        QueryAnswer::Earliest(earliest) => reply_earliest(reply, earliest),
-        QueryAnswer::Refused(refusal) => reply_refusal(reply, refusal),
+        QueryAnswer::Earliest(earliest) => earliest_reply(earliest),
+        QueryAnswer::Refused(refusal) => refused(refusal),
     }
 }
 
 // The answer to a load of so many services.
-fn reply_load(reply: &mut Reply, answer: Answer, count: usize) {
+pub(crate) fn load_reply(answer: Answer, count: usize) -> Reply {
     match answer {
-        Answer::Accepted => reply_act(reply, OK_COUNT, count, 0),
+        Answer::Accepted => act(OK_COUNT, count, 0),
         Answer::Refused {
             number,
             service,
             line,
-        } => reply_all(
-            reply,
-            LOAD_REFUSED,
-            number as u64,
-            service as u64,
-            line as u64,
-        ),
+        } => Reply {
+            text: LOAD_REFUSED,
+            first: number as u64,
+            second: service as u64,
+            third: line as u64,
+        },
     }
 }
 
-fn reply_loaded(reply: &mut Reply, loaded: Loaded) {
-    let answer = loaded.answer;
-    let t = loaded.table;
-    reply_load(reply, answer, t.count);
-}
-
-// The answer to a line that is no call, of this number; none to one that is.
-pub(crate) fn reply_line(reply: &mut Reply, verb: usize, loaded: Loaded, number: u64) {
-    if is_load(verb) {
-        return reply_loaded(reply, loaded);
-    }
+// The answer to a line of this number that is neither a call nor a load; none to one that is.
+pub(crate) fn line_reply(verb: usize, number: u64) -> Reply {
     match verb {
-        SET_CLOCK..=SET_TABLE_LAST => reply_text(reply, OK),
-        BAD => reply_number(reply, BAD_LINE, number),
-        _ => reply_text(reply, SILENT),
+        SET_CLOCK..=SET_TABLE_LAST => numbered(OK, 0),
+        BAD => numbered(BAD_LINE, number),
+        _ => numbered(SILENT, 0),
     }
 }

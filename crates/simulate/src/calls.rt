@@ -1,12 +1,12 @@
 // The calls: the state that each leaves, and its answer.
-use crate::answers::Reply;
-use crate::answers::reply_event;
-use crate::answers::reply_line;
-use crate::answers::reply_next;
-use crate::answers::reply_query;
-use crate::answers::reply_run;
+use crate::answers::ReplyLine;
+use crate::answers::event_reply;
+use crate::answers::keep_reply;
+use crate::answers::next_reply;
+use crate::answers::query_reply;
+use crate::answers::run_reply;
+use crate::given::least;
 use crate::reading::Command;
-use crate::setting::state_after;
 use crate::texts::CLOCK;
 use crate::texts::END;
 use crate::texts::NEXT;
@@ -16,7 +16,6 @@ use crate::texts::RUN_IN;
 use crate::texts::START;
 use crate::texts::STOP;
 use crate::texts::STOP_ALL;
-use loader::Loaded;
 use service::Changed;
 use service::Ran;
 use service::State;
@@ -40,17 +39,17 @@ fn event(t: Table, x: State, command: Command) -> Changed {
     }
 }
 
-fn call_event(t: Table, x: State, command: Command, reply: &mut Reply) -> State {
+fn call_event(t: Table, x: State, command: Command, line: &mut ReplyLine) -> State {
     let changed = event(t, x, command);
     let answer = changed.answer;
-    reply_event(reply, answer);
+    keep_reply(line, event_reply(answer));
     changed.state
 }
 
-fn call_next(t: Table, x: State, reply: &mut Reply) -> State {
+fn call_next(t: Table, x: State, line: &mut ReplyLine) -> State {
     let stepped = engine::next_action(t, x);
     let answer = stepped.answer;
-    reply_next(reply, answer);
+    keep_reply(line, next_reply(answer));
     stepped.state
 }
 
@@ -62,13 +61,9 @@ fn run_in(
     services: &mut [u64],
     actions: &mut [u64],
 ) -> Ran {
-    if services.len() < a {
-        return engine::run_to_quiet(t, x, services, actions);
-    }
-    if actions.len() < b {
-        return engine::run_to_quiet(t, x, services, actions);
-    }
-    engine::run_to_quiet(t, x, &mut services[0..a], &mut actions[0..b])
+    let m = least(a, services.len());
+    let n = least(b, actions.len());
+    engine::run_to_quiet(t, x, &mut services[0..m], &mut actions[0..n])
 }
 
 // How many places a run is lent: those of the line, or all.
@@ -83,7 +78,7 @@ fn call_run(
     t: Table,
     x: State,
     command: Command,
-    reply: &mut Reply,
+    line: &mut ReplyLine,
     services: &mut Places,
     actions: &mut Places,
 ) -> State {
@@ -91,39 +86,31 @@ fn call_run(
     let b = lent_places(command.verb, command.last);
     let ran = run_in(t, x, a, b, services, actions);
     let answer = ran.answer;
-    reply_run(reply, answer);
+    keep_reply(line, run_reply(answer));
     ran.state
 }
 
-fn call_query(t: Table, x: State, reply: &mut Reply) -> State {
+fn call_query(t: Table, x: State, line: &mut ReplyLine) -> State {
     let answer = query::query(t, x);
-    reply_query(reply, answer);
+    keep_reply(line, query_reply(answer));
     x
 }
 
-// The state after a line that is no call, and the line's answer.
-fn obey(x: State, command: Command, loaded: Loaded, number: u64, reply: &mut Reply) -> State {
-    reply_line(reply, command.verb, loaded, number);
-    state_after(x, command)
-}
-
-// The state after a line of this number, and the line's answer.
+// The state after a line that may be a call, and the call's answer.
 pub(crate) fn call(
     t: Table,
     x: State,
     command: Command,
-    loaded: Loaded,
-    number: u64,
-    reply: &mut Reply,
+    line: &mut ReplyLine,
     services: &mut Places,
     actions: &mut Places,
 ) -> State {
     let verb = command.verb;
     match verb {
-        NEXT => call_next(t, x, reply),
-        RUN | RUN_IN => call_run(t, x, command, reply, services, actions),
-        QUERY => call_query(t, x, reply),
-        START..=CLOCK => call_event(t, x, command, reply),
-        _ => obey(x, command, loaded, number, reply),
+        NEXT => call_next(t, x, line),
+        RUN | RUN_IN => call_run(t, x, command, line, services, actions),
+        QUERY => call_query(t, x, line),
+        START..=CLOCK => call_event(t, x, command, line),
+        _ => x,
     }
 }

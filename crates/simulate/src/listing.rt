@@ -6,9 +6,7 @@ use crate::output::Output;
 use crate::output::put;
 use crate::output::put_bytes;
 use crate::output::put_hex_bytes;
-use crate::records::record_at;
 use crate::records::record_line;
-use crate::records::settings_at;
 use crate::records::settings_line;
 use crate::texts::CLOCK_LINE;
 use crate::texts::NO_TOKENS;
@@ -16,31 +14,27 @@ use crate::texts::SERVICE_HEAD;
 use crate::texts::SERVICE_TAIL;
 use crate::texts::TOKENS;
 use lent::name_at;
+use service::Kind;
 use service::MAX_SERVICES;
+use service::Record;
+use service::Settings;
 use service::State;
 use service::Table;
 use storing::Commands;
 use text::part;
-
-// The number of a service's type.
-fn kind_at(t: Table, s: usize) -> u64 {
-    let v = settings_at(t, s);
-    let kind = v.kind;
-    kind_number(kind)
-}
 
 // A service with its name and its type.
 fn put_service(
     out: &mut Output,
     at: usize,
     texts: &[u8],
-    t: Table,
     s: usize,
     name: &[u8],
+    kind: Kind,
 ) -> usize {
     let opened = put_numbered(out, at, texts, SERVICE_HEAD, s as u64);
     let named = put_bytes(out, opened, name);
-    let typed = put_numbered(out, named, texts, SERVICE_TAIL, kind_at(t, s));
+    let typed = put_numbered(out, named, texts, SERVICE_TAIL, kind_number(kind));
     put(out, typed, b'\n')
 }
 
@@ -59,28 +53,23 @@ pub(crate) fn put_services(
         if t.count <= s {
             break;
         }
-        to = put_service(out, to, texts, t, s, name_at(lent, positions, s));
+        let v = t.services[s];
+        let kind = v.kind;
+        to = put_service(out, to, texts, s, name_at(lent, positions, s), kind);
         s += 1;
     }
     to
-}
-
-fn commands_at(commands: [Commands; MAX_SERVICES], s: usize) -> Commands {
-    if s < MAX_SERVICES {
-        return commands[s];
-    }
-    commands[0]
 }
 
 fn put_settings(
     out: &mut Output,
     at: usize,
     texts: &[u8],
-    t: Table,
-    commands: [Commands; MAX_SERVICES],
     s: usize,
+    v: Settings,
+    c: Commands,
 ) -> usize {
-    let line = settings_line(s, settings_at(t, s), commands_at(commands, s));
+    let line = settings_line(s, v, c);
     put_line(out, at, texts, &line)
 }
 
@@ -99,7 +88,7 @@ fn put_all_settings(
         if count <= s {
             break;
         }
-        to = put_settings(out, to, texts, t, commands, s);
+        to = put_settings(out, to, texts, s, t.services[s], commands[s]);
         s += 1;
     }
     to
@@ -170,8 +159,8 @@ pub(crate) fn put_table(
     )
 }
 
-fn put_record(out: &mut Output, at: usize, texts: &[u8], x: State, s: usize) -> usize {
-    let line = record_line(s, record_at(x, s));
+fn put_record(out: &mut Output, at: usize, texts: &[u8], s: usize, r: Record) -> usize {
+    let line = record_line(s, r);
     put_line(out, at, texts, &line)
 }
 
@@ -183,7 +172,7 @@ fn put_records(out: &mut Output, at: usize, texts: &[u8], x: State, count: usize
         if count <= s {
             break;
         }
-        to = put_record(out, to, texts, x, s);
+        to = put_record(out, to, texts, s, x.records[s]);
         s += 1;
     }
     to

@@ -14,7 +14,7 @@ mod texts;
 mod words;
 mod writing;
 
-use answers::Reply;
+use answers::ReplyLine;
 use calls::Places;
 use calls::call;
 use given::Buffer;
@@ -30,12 +30,16 @@ use reading::Positions;
 use reading::read_line;
 use service::State;
 use service::Table;
+use setting::state_after;
 use setting::table_after;
 use text::line_end;
 use text::part;
 use texts::TEXTS;
 use writing::put_answer;
-use writing::put_lists;
+use writing::put_loaded;
+use writing::put_shown;
+use writing::put_stood;
+use writing::reply_line;
 ghost use Prim.Native.Nat.{_<_, _≤_};
 ghost use lib.ListN.{length};
 
@@ -69,7 +73,7 @@ fn obey_all(
     buffer: &mut Buffer,
     positions: &mut Positions,
     tokens: &mut TokenBuffer,
-    reply: &mut Reply,
+    reply: &mut ReplyLine,
     services: &mut Places,
     actions: &mut Places,
     out: &mut Output,
@@ -93,29 +97,12 @@ fn obey_all(
         given = given_after(given, command.verb, line, buffer, positions);
         loaded = loaded_after(loaded, command, given, buffer, positions, tokens);
         table = table_after(table, command, loaded);
-        state = call(
-            table,
-            state,
-            command,
-            loaded,
-            lines,
-            reply,
-            services,
-            actions,
-        );
-        to = put_lists(
-            out,
-            to,
-            texts,
-            command,
-            given,
-            loaded,
-            table,
-            state,
-            buffer,
-            positions,
-            tokens,
-        );
+        state = state_after(state, command);
+        to = put_loaded(out, to, texts, command, given, table, buffer, positions);
+        to = put_shown(out, to, texts, command.verb, loaded, table, tokens);
+        to = put_stood(out, to, texts, command.verb, state, table.count);
+        reply_line(reply, command.verb, loaded, lines);
+        state = call(table, state, command, reply, services, actions);
         to = put_answer(out, to, texts, reply, services, actions);
         at = next;
     }
@@ -140,7 +127,7 @@ fn read_scenario(input: &mut [u8]) -> usize {
     0
 }
 
-fn run(texts: &[u8], scenario: &[u8], out: &mut Output) -> usize {
+fn obey(texts: &[u8], scenario: &[u8], out: &mut Output) -> usize {
     let mut buffer = [0u8; 136290];
     let mut positions = [0usize; 136];
     let mut tokens = io::large_buffer();
@@ -160,11 +147,20 @@ fn run(texts: &[u8], scenario: &[u8], out: &mut Output) -> usize {
     )
 }
 
-fn main() {
+// The same with the texts of the format.
+fn obey_with_texts(scenario: &[u8], out: &mut Output) -> usize {
     let texts = TEXTS;
+    obey(&texts, scenario, out)
+}
+
+fn run(input: &mut [u8], out: &mut Output) {
+    let n = read_scenario(input);
+    let at = obey_with_texts(part(input, 0, n), out);
+    write_rest(out, at);
+}
+
+fn main() {
     let mut input = [0u8; 262145];
     let mut out = io::large_buffer();
-    let n = read_scenario(&mut input);
-    let at = run(&texts, part(&input, 0, n), &mut out);
-    write_rest(&out, at);
+    run(&mut input, &mut out);
 }

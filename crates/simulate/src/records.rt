@@ -86,25 +86,14 @@ fn with_number(line: RecordLine, i: usize, n: u64) -> RecordLine {
     changed
 }
 
-pub(crate) fn record_at(x: State, s: usize) -> Record {
-    if s < MAX_SERVICES {
-        return x.records[s];
-    }
-    Record::fresh()
-}
-
-fn with_record(x: State, s: usize, r: Record) -> State {
-    let mut y = x;
-    if s < MAX_SERVICES {
-        y.records[s] = r;
-    }
-    y
-}
-
 // The state with a field of a record set, by its place in the record's line.
 pub(crate) fn with_field(x: State, s: usize, i: usize, n: u64) -> State {
-    let line = with_number(record_line(s, record_at(x, s)), i, n);
-    with_record(x, s, record_of(line))
+    let mut y = x;
+    if s < MAX_SERVICES {
+        let line = record_line(s, y.records[s]);
+        y.records[s] = record_of(with_number(line, i, n));
+    }
+    y
 }
 
 pub(crate) fn settings_line(s: usize, v: Settings, c: Commands) -> SettingsLine {
@@ -131,21 +120,6 @@ pub(crate) fn settings_line(s: usize, v: Settings, c: Commands) -> SettingsLine 
     ]
 }
 
-pub(crate) fn settings_at(t: Table, s: usize) -> Settings {
-    if s < MAX_SERVICES {
-        return t.services[s];
-    }
-    Settings::default()
-}
-
-fn with_settings(t: Table, s: usize, v: Settings) -> Table {
-    let mut u = t;
-    if s < MAX_SERVICES {
-        u.services[s] = v;
-    }
-    u
-}
-
 // Settings with a number set, by its place among those that can be.
 fn with_setting(settings: Settings, field: usize, n: u64) -> Settings {
     let mut v = settings;
@@ -164,5 +138,10 @@ fn with_setting(settings: Settings, field: usize, n: u64) -> Settings {
 
 // The table with a number of a service's settings set.
 pub(crate) fn with_set(t: Table, s: usize, field: usize, n: u64) -> Table {
-    with_settings(t, s, with_setting(settings_at(t, s), field, n))
+    let mut u = t;
+    if s < MAX_SERVICES {
+        let v = u.services[s];
+        u.services[s] = with_setting(v, field, n);
+    }
+    u
 }

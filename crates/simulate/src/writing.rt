@@ -1,6 +1,9 @@
 // What is written for a line: what it shows, and its answer.
-use crate::answers::Reply;
+use crate::answers::ReplyLine;
 use crate::answers::SILENT;
+use crate::answers::keep_reply;
+use crate::answers::line_reply;
+use crate::answers::load_reply;
 use crate::calls::Places;
 use crate::filling::number_at;
 use crate::filling::put_line;
@@ -12,15 +15,13 @@ use crate::listing::put_services;
 use crate::listing::put_state;
 use crate::listing::put_table;
 use crate::loading::TokenBuffer;
+use crate::loading::is_load;
 use crate::loading::lent_positions;
 use crate::output::Output;
 use crate::output::put;
 use crate::reading::Command;
-use crate::reading::LOAD_AT;
 use crate::reading::Positions;
 use crate::texts::LAUNCH;
-use crate::texts::LOAD;
-use crate::texts::LOAD_NONE;
 use crate::texts::MOVED;
 use crate::texts::RUN_COUNT;
 use crate::texts::SHOW;
@@ -32,59 +33,71 @@ use service::State;
 use service::Table;
 use text::part;
 
-fn put_shown(
+// The table, where a line shows it.
+pub(crate) fn put_shown(
     out: &mut Output,
     at: usize,
     texts: &[u8],
+    verb: usize,
     loaded: Loaded,
     t: Table,
     tokens: &TokenBuffer,
 ) -> usize {
+    if verb != SHOW {
+        return at;
+    }
     let first = loaded.table;
     let commands = loaded.commands;
     put_table(out, at, texts, t, commands, first.count, tokens)
 }
 
-// The services that a line loaded.
-fn put_loaded(
+// The state, where a line shows it.
+pub(crate) fn put_stood(
     out: &mut Output,
     at: usize,
     texts: &[u8],
-    command: Command,
-    given: Given,
-    loaded: Loaded,
-    buffer: &Buffer,
-    positions: &Positions,
+    verb: usize,
+    x: State,
+    count: usize,
 ) -> usize {
-    let lent = part(buffer, 0, given.bytes);
-    let ends = lent_positions(positions, command, given.begun);
-    let t = loaded.table;
-    put_services(out, at, texts, t, lent, ends)
+    if verb != STATE {
+        return at;
+    }
+    put_state(out, at, texts, x, count)
 }
 
-// What a line shows beside its answer: the services that it loaded, the table or the state.
-pub(crate) fn put_lists(
+// The services that a line loaded.
+pub(crate) fn put_loaded(
     out: &mut Output,
     at: usize,
     texts: &[u8],
     command: Command,
     given: Given,
-    loaded: Loaded,
     t: Table,
-    x: State,
     buffer: &Buffer,
     positions: &Positions,
-    tokens: &TokenBuffer,
 ) -> usize {
-    let verb = command.verb;
-    match verb {
-        SHOW => put_shown(out, at, texts, loaded, t, tokens),
-        STATE => put_state(out, at, texts, x, t.count),
-        LOAD | LOAD_NONE | LOAD_AT => {
-            put_loaded(out, at, texts, command, given, loaded, buffer, positions)
-        }
-        _ => at,
+    if is_load(command.verb) {
+        let lent = part(buffer, 0, given.bytes);
+        let ends = lent_positions(positions, command, given.begun);
+        return put_services(out, at, texts, t, lent, ends);
     }
+    at
+}
+
+// Keeps the answer to a load.
+fn reply_load(line: &mut ReplyLine, loaded: Loaded) {
+    let answer = loaded.answer;
+    let t = loaded.table;
+    keep_reply(line, load_reply(answer, t.count));
+}
+
+// Keeps the answer to a line of this number that is no call; a call's comes after it.
+pub(crate) fn reply_line(line: &mut ReplyLine, verb: usize, loaded: Loaded, number: u64) {
+    if is_load(verb) {
+        return reply_load(line, loaded);
+    }
+    keep_reply(line, line_reply(verb, number));
 }
 
 // The text of an action of a run, by its number: three kinds, and then the signals.
@@ -158,7 +171,7 @@ pub(crate) fn put_answer(
     out: &mut Output,
     at: usize,
     texts: &[u8],
-    reply: &Reply,
+    reply: &ReplyLine,
     services: &Places,
     actions: &Places,
 ) -> usize {
