@@ -19,6 +19,7 @@ use crate::texts::STOP_ALL;
 use service::Changed;
 use service::Ran;
 use service::State;
+use service::Stepped;
 use service::Table;
 
 // What a run is lent, for the services or for the actions.
@@ -39,18 +40,26 @@ fn event(t: Table, x: State, command: Command) -> Changed {
     }
 }
 
-fn call_event(t: Table, x: State, command: Command, line: &mut ReplyLine) -> State {
-    let changed = event(t, x, command);
+// Keeps the answer, and hands on the state.
+fn kept_event(changed: Changed, line: &mut ReplyLine) -> State {
     let answer = changed.answer;
     keep_reply(line, event_reply(answer));
     changed.state
 }
 
-fn call_next(t: Table, x: State, line: &mut ReplyLine) -> State {
-    let stepped = engine::next_action(t, x);
+fn call_event(t: Table, x: State, command: Command, line: &mut ReplyLine) -> State {
+    kept_event(event(t, x, command), line)
+}
+
+// Keeps the answer, and hands on the state.
+fn kept_next(stepped: Stepped, line: &mut ReplyLine) -> State {
     let answer = stepped.answer;
     keep_reply(line, next_reply(answer));
     stepped.state
+}
+
+fn call_next(t: Table, x: State, line: &mut ReplyLine) -> State {
+    kept_next(engine::next_action(t, x), line)
 }
 
 fn run_in(
@@ -74,6 +83,12 @@ fn lent_places(verb: usize, n: u64) -> usize {
     n as usize
 }
 
+fn kept_run(ran: Ran, line: &mut ReplyLine) -> State {
+    let answer = ran.answer;
+    keep_reply(line, run_reply(answer));
+    ran.state
+}
+
 fn call_run(
     t: Table,
     x: State,
@@ -84,10 +99,7 @@ fn call_run(
 ) -> State {
     let a = lent_places(command.verb, command.first);
     let b = lent_places(command.verb, command.last);
-    let ran = run_in(t, x, a, b, services, actions);
-    let answer = ran.answer;
-    keep_reply(line, run_reply(answer));
-    ran.state
+    kept_run(run_in(t, x, a, b, services, actions), line)
 }
 
 fn call_query(t: Table, x: State, line: &mut ReplyLine) -> State {

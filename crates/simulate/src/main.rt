@@ -36,9 +36,7 @@ use text::line_end;
 use text::part;
 use texts::TEXTS;
 use writing::put_answer;
-use writing::put_loaded;
-use writing::put_shown;
-use writing::put_stood;
+use writing::put_lists;
 use writing::reply_line;
 ghost use Prim.Native.Nat.{_<_, _≤_};
 ghost use lib.ListN.{length};
@@ -98,9 +96,19 @@ fn obey_all(
         loaded = loaded_after(loaded, command, given, buffer, positions, tokens);
         table = table_after(table, command, loaded);
         state = state_after(state, command);
-        to = put_loaded(out, to, texts, command, given, table, buffer, positions);
-        to = put_shown(out, to, texts, command.verb, loaded, table, tokens);
-        to = put_stood(out, to, texts, command.verb, state, table.count);
+        to = put_lists(
+            out,
+            to,
+            texts,
+            command,
+            given,
+            loaded,
+            table,
+            state,
+            buffer,
+            positions,
+            tokens,
+        );
         reply_line(reply, command.verb, loaded, lines);
         state = call(table, state, command, reply, services, actions);
         to = put_answer(out, to, texts, reply, services, actions);

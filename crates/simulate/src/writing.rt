@@ -34,7 +34,7 @@ use service::Table;
 use text::part;
 
 // The table, where a line shows it.
-pub(crate) fn put_shown(
+fn put_shown(
     out: &mut Output,
     at: usize,
     texts: &[u8],
@@ -46,13 +46,12 @@ pub(crate) fn put_shown(
     if verb != SHOW {
         return at;
     }
-    let first = loaded.table;
     let commands = loaded.commands;
-    put_table(out, at, texts, t, commands, first.count, tokens)
+    put_table(out, at, texts, t, commands, loaded.table.count, tokens)
 }
 
 // The state, where a line shows it.
-pub(crate) fn put_stood(
+fn put_stood(
     out: &mut Output,
     at: usize,
     texts: &[u8],
@@ -67,7 +66,7 @@ pub(crate) fn put_stood(
 }
 
 // The services that a line loaded.
-pub(crate) fn put_loaded(
+fn put_loaded(
     out: &mut Output,
     at: usize,
     texts: &[u8],
@@ -85,11 +84,29 @@ pub(crate) fn put_loaded(
     at
 }
 
+// What a line shows beside its answer: the services that it loaded, the table or the state.
+pub(crate) fn put_lists(
+    out: &mut Output,
+    at: usize,
+    texts: &[u8],
+    command: Command,
+    given: Given,
+    loaded: Loaded,
+    t: Table,
+    x: State,
+    buffer: &Buffer,
+    positions: &Positions,
+    tokens: &TokenBuffer,
+) -> usize {
+    let first = put_loaded(out, at, texts, command, given, t, buffer, positions);
+    let second = put_shown(out, first, texts, command.verb, loaded, t, tokens);
+    put_stood(out, second, texts, command.verb, x, t.count)
+}
+
 // Keeps the answer to a load.
 fn reply_load(line: &mut ReplyLine, loaded: Loaded) {
     let answer = loaded.answer;
-    let t = loaded.table;
-    keep_reply(line, load_reply(answer, t.count));
+    keep_reply(line, load_reply(answer, loaded.table.count));
 }
 
 // Keeps the answer to a line of this number that is no call; a call's comes after it.
