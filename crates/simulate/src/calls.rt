@@ -5,7 +5,6 @@ use crate::answers::keep_reply;
 use crate::answers::next_reply;
 use crate::answers::query_reply;
 use crate::answers::run_reply;
-use crate::given::least;
 use crate::reading::Command;
 use crate::texts::CLOCK;
 use crate::texts::END;
@@ -70,9 +69,12 @@ fn run_in(
     services: &mut [u64],
     actions: &mut [u64],
 ) -> Ran {
-    let m = least(a, services.len());
-    let n = least(b, actions.len());
-    engine::run_to_quiet(t, x, &mut services[0..m], &mut actions[0..n])
+    if a <= services.len() {
+        if b <= actions.len() {
+            return engine::run_to_quiet(t, x, &mut services[0..a], &mut actions[0..b]);
+        }
+    }
+    engine::run_to_quiet(t, x, services, actions)
 }
 
 // How many places a run is lent: those of the line, or all.

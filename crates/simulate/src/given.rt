@@ -24,7 +24,7 @@ pub(crate) struct Given {
     pub(crate) text: usize,
 }
 
-pub(crate) fn least(a: usize, b: usize) -> usize
+fn least(a: usize, b: usize) -> usize
     ensures { λ r. ⌜ (r ≤ a) × (r ≤ b) ⌝ }
 {
     if a < b { a } else { b }

@@ -1,7 +1,6 @@
 // A load: the services given so far are lent to the loader.
 use crate::given::Buffer;
 use crate::given::Given;
-use crate::given::least;
 use crate::given::own_end;
 use crate::reading::Command;
 use crate::reading::LOAD_AT;
@@ -74,8 +73,11 @@ pub(crate) fn lent_positions(positions: &Positions, command: Command, begun: usi
 
 // Loads with a token buffer of so many bytes.
 fn load_in(lent: &[u8], positions: &[usize], room: u64, tokens: &mut [u8]) -> Loaded {
-    let most = least(room as usize, tokens.len());
-    loader::load(lent, positions, &mut tokens[0..most])
+    let most = room as usize;
+    if most <= tokens.len() {
+        return loader::load(lent, positions, &mut tokens[0..most]);
+    }
+    loader::load(lent, positions, tokens)
 }
 
 // Loads the services given so far.
