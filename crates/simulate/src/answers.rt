@@ -1,109 +1,149 @@
-// The answers to the calls, as lines.
-use crate::names::SIGNALS;
+// The answers to the calls, as texts with their numbers.
 use crate::names::signal_number;
-use crate::output::put_bytes;
-use crate::output::put_number;
-use crate::output::put_numbered;
-use crate::words::word;
+use crate::reading::BAD;
+use crate::texts::BAD_LINE;
+use crate::texts::EARLIEST;
+use crate::texts::LAUNCH;
+use crate::texts::LOAD_REFUSED;
+use crate::texts::MOVED;
+use crate::texts::NO_EARLIEST;
+use crate::texts::OK;
+use crate::texts::OK_COUNT;
+use crate::texts::QUIET;
+use crate::texts::REFUSED;
+use crate::texts::RUN_COUNT;
+use crate::texts::SET_CLOCK;
+use crate::texts::SET_TABLE_LAST;
+use crate::texts::SIGNAL;
+use crate::texts::STOP_COMMAND;
+use lent::Answer;
 use service::Action;
 use service::ActionAnswer;
 use service::Deadline;
 use service::EventAnswer;
 use service::QueryAnswer;
 use service::Refusal;
-use service::Signal;
+use service::RunAnswer;
 
-fn refusal_number(refusal: Refusal) -> u64 {
+// An answer: the place of its text, and up to three numbers.
+pub(crate) struct Reply {
+    pub(crate) text: usize,
+    pub(crate) first: u64,
+    pub(crate) second: u64,
+    pub(crate) third: u64,
+}
+
+// The same in numbers, as it is lent.
+pub(crate) type ReplyLine = [u64; 4];
+
+// In the place of a text: there is no answer.
+pub(crate) const SILENT: usize = 0;
+
+pub(crate) fn keep_reply(line: &mut ReplyLine, reply: Reply) {
+    line[0] = reply.text as u64;
+    line[1] = reply.first;
+    line[2] = reply.second;
+    line[3] = reply.third;
+}
+
+fn numbered(text: usize, first: u64) -> Reply {
+    Reply {
+        text,
+        first,
+        second: 0,
+        third: 0,
+    }
+}
+
+fn refused(refusal: Refusal) -> Reply {
     match refusal {
-        Refusal::IllFormed => 24,
-        Refusal::NoService => 20,
-        Refusal::NotLive => 21,
-        Refusal::ClockBack => 22,
-        Refusal::ClockPast => 23,
-        Refusal::NoRoom => 25,
+        Refusal::IllFormed => numbered(REFUSED, 24),
+        Refusal::NoService => numbered(REFUSED, 20),
+        Refusal::NotLive => numbered(REFUSED, 21),
+        Refusal::ClockBack => numbered(REFUSED, 22),
+        Refusal::ClockPast => numbered(REFUSED, 23),
+        Refusal::NoRoom => numbered(REFUSED, 25),
     }
 }
 
-pub fn put_refusal(out: &mut [u8], at: usize, refusal: Refusal) -> usize {
-    let to = put_numbered(out, at, b"refused ", refusal_number(refusal));
-    put_bytes(out, to, b"\n")
-}
-
-pub fn put_event(out: &mut [u8], at: usize, answer: EventAnswer) -> usize {
+pub(crate) fn event_reply(answer: EventAnswer) -> Reply {
     match answer {
-        EventAnswer::Done => put_bytes(out, at, b"ok\n"),
-        EventAnswer::Refused(refusal) => put_refusal(out, at, refusal),
+        EventAnswer::Done => numbered(OK, 0),
+        EventAnswer::Refused(refusal) => refused(refusal),
     }
 }
 
-// A signal by its place in the list.
-fn put_signal(out: &mut [u8], at: usize, service: u64, place: usize) -> usize {
-    let named = put_numbered(out, at, b"signal ", service);
-    let parted = put_bytes(out, named, b" ");
-    put_bytes(out, parted, word(&SIGNALS, place))
+// An action by its text, its service and its signal.
+fn act(text: usize, service: usize, signal: u64) -> Reply {
+    Reply {
+        text,
+        first: service as u64,
+        second: signal,
+        third: 0,
+    }
 }
 
-fn put_action(out: &mut [u8], at: usize, action: Action) -> usize {
+fn action_reply(action: Action) -> Reply {
     match action {
-        Action::Quiet => put_bytes(out, at, b"quiet"),
-        Action::Moved(s) => put_numbered(out, at, b"moved ", s as u64),
-        Action::Launch(s) => put_numbered(out, at, b"launch ", s as u64),
-        Action::StopCommand(s) => put_numbered(out, at, b"stop-command ", s as u64),
-        Action::Signal(s, signal) => put_signal(out, at, s as u64, signal_number(signal)),
+        Action::Quiet => act(QUIET, 0, 0),
+        Action::Moved(s) => act(MOVED, s, 0),
+        Action::Launch(s) => act(LAUNCH, s, 0),
+        Action::StopCommand(s) => act(STOP_COMMAND, s, 0),
+        Action::Signal(s, signal) => act(SIGNAL, s, signal_number(signal)),
     }
 }
 
-pub fn put_next(out: &mut [u8], at: usize, answer: ActionAnswer) -> usize {
+pub(crate) fn next_reply(answer: ActionAnswer) -> Reply {
     match answer {
-        ActionAnswer::Act(action) => {
-            let to = put_action(out, at, action);
-            put_bytes(out, to, b"\n")
-        }
-        ActionAnswer::Refused(refusal) => put_refusal(out, at, refusal),
+        ActionAnswer::Act(action) => action_reply(action),
+        ActionAnswer::Refused(refusal) => refused(refusal),
     }
 }
 
-// An action of a run, by its number.
-fn put_numbered_action(out: &mut [u8], at: usize, service: u64, action: u64) -> usize {
-    match action {
-        0 => put_numbered(out, at, b"moved ", service),
-        1 => put_numbered(out, at, b"launch ", service),
-        2 => put_numbered(out, at, b"stop-command ", service),
-        _ => put_signal(out, at, service, (action - 3) as usize),
-    }
-}
-
-fn number_at(numbers: &[u64], i: usize) -> u64 {
-    if i < numbers.len() { numbers[i] } else { 0 }
-}
-
-// A run's line: how many actions there were, and each of them.
-pub fn put_run(
-    out: &mut [u8],
-    at: usize,
-    count: usize,
-    services: &[u64],
-    actions: &[u64],
-) -> usize {
-    let mut to = put_numbered(out, at, b"run ", count as u64);
-    let mut i: usize = 0;
-    while i < count {
-        to = put_bytes(out, to, b"; ");
-        to = put_numbered_action(out, to, number_at(services, i), number_at(actions, i));
-        i += 1;
-    }
-    put_bytes(out, to, b"\n")
-}
-
-pub fn put_query(out: &mut [u8], at: usize, answer: QueryAnswer) -> usize {
+// The answer to a run, whose actions are listed elsewhere.
+pub(crate) fn run_reply(answer: RunAnswer) -> Reply {
     match answer {
-        QueryAnswer::Earliest(earliest) => match earliest {
-            Deadline::None => put_bytes(out, at, b"none\n"),
-            Deadline::At(time) => {
-                let to = put_numbered(out, at, b"at ", time);
-                put_bytes(out, to, b"\n")
-            }
+        RunAnswer::Ran(count) => act(RUN_COUNT, count, 0),
+        RunAnswer::Refused(refusal) => refused(refusal),
+    }
+}
+
+fn earliest_reply(earliest: Deadline) -> Reply {
+    match earliest {
+        Deadline::None => numbered(NO_EARLIEST, 0),
+        Deadline::At(time) => numbered(EARLIEST, time),
+    }
+}
+
+pub(crate) fn query_reply(answer: QueryAnswer) -> Reply {
+    match answer {
+        QueryAnswer::Earliest(earliest) => earliest_reply(earliest),
+        QueryAnswer::Refused(refusal) => refused(refusal),
+    }
+}
+
+// The answer to a load of so many services.
+pub(crate) fn load_reply(answer: Answer, count: usize) -> Reply {
+    match answer {
+        Answer::Accepted => act(OK_COUNT, count, 0),
+        Answer::Refused {
+            number,
+            service,
+            line,
+        } => Reply {
+            text: LOAD_REFUSED,
+            first: number as u64,
+            second: service as u64,
+            third: line as u64,
         },
-        QueryAnswer::Refused(refusal) => put_refusal(out, at, refusal),
+    }
+}
+
+// The answer to a line of this number that is neither a call nor a load; none to one that is.
+pub(crate) fn line_reply(verb: usize, number: u64) -> Reply {
+    match verb {
+        SET_CLOCK..=SET_TABLE_LAST => numbered(OK, 0),
+        BAD => numbered(BAD_LINE, number),
+        _ => numbered(SILENT, 0),
     }
 }

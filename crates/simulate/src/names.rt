@@ -1,24 +1,11 @@
-// The words of the scenario format, in lists, and the numbers of the values that they name: a value's number is its word's place.
+// The places of values in the lists of their names.
 use service::Cause;
+use service::Deadline;
 use service::Kind;
 use service::Phase;
 use service::Signal;
 
-pub const KINDS: [u8; 25] = *b"process scripted internal";
-
-pub const SIGNALS: [u8; 37] = *b"none HUP INT TERM QUIT USR1 USR2 KILL";
-
-pub const PHASES: [u8; 31] = *b"down waiting starting up ending";
-
-pub const CAUSES: [u8; 30] = *b"none user released fell failed";
-
-pub const RECORD_FIELDS: [u8; 90] =
-    *b"phase wanted aside live cause deadline killed not-before last-launch window-start restarts";
-
-pub const TABLE_FIELDS: [u8; 115] =
-    *b"restart-delay restart-limit-interval restart-limit-count start-timeout stop-timeout depends-on depends-ms waits-for";
-
-pub fn kind_number(value: Kind) -> usize {
+pub(crate) fn kind_number(value: Kind) -> u64 {
     match value {
         Kind::Process => 0,
         Kind::Scripted => 1,
@@ -26,7 +13,7 @@ pub fn kind_number(value: Kind) -> usize {
     }
 }
 
-pub fn signal_number(value: Signal) -> usize {
+pub(crate) fn signal_number(value: Signal) -> u64 {
     match value {
         Signal::None => 0,
         Signal::Hup => 1,
@@ -39,7 +26,7 @@ pub fn signal_number(value: Signal) -> usize {
     }
 }
 
-pub fn phase_number(value: Phase) -> usize {
+pub(crate) fn phase_number(value: Phase) -> u64 {
     match value {
         Phase::Down => 0,
         Phase::Waiting => 1,
@@ -49,7 +36,7 @@ pub fn phase_number(value: Phase) -> usize {
     }
 }
 
-pub fn phase_of(number: u64) -> Phase {
+pub(crate) fn phase_of(number: u64) -> Phase {
     match number {
         0 => Phase::Down,
         1 => Phase::Waiting,
@@ -59,7 +46,7 @@ pub fn phase_of(number: u64) -> Phase {
     }
 }
 
-pub fn cause_number(value: Cause) -> usize {
+pub(crate) fn cause_number(value: Cause) -> u64 {
     match value {
         Cause::None => 0,
         Cause::User => 1,
@@ -69,7 +56,7 @@ pub fn cause_number(value: Cause) -> usize {
     }
 }
 
-pub fn cause_of(number: u64) -> Cause {
+pub(crate) fn cause_of(number: u64) -> Cause {
     match number {
         0 => Cause::None,
         1 => Cause::User,
@@ -77,4 +64,26 @@ pub fn cause_of(number: u64) -> Cause {
         3 => Cause::Fell,
         _ => Cause::Failed,
     }
+}
+
+// Whether there is a deadline, and its time.
+pub(crate) fn deadline_flag(value: Deadline) -> u64 {
+    match value {
+        Deadline::None => 0,
+        Deadline::At(_) => 1,
+    }
+}
+
+pub(crate) fn deadline_time(value: Deadline) -> u64 {
+    match value {
+        Deadline::None => 0,
+        Deadline::At(time) => time,
+    }
+}
+
+pub(crate) fn deadline_of(flag: u64, time: u64) -> Deadline {
+    if flag == 0 {
+        return Deadline::None;
+    }
+    Deadline::At(time)
 }

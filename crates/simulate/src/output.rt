@@ -2,21 +2,20 @@
 use libc::STDOUT_FILENO;
 use text::part;
 
+pub(crate) type Output = [u8; 65536];
+
 // Puts a byte; where the buffer is full it is written out first.
-pub fn put(out: &mut [u8], at: usize, byte: u8) -> usize {
+pub(crate) fn put(out: &mut Output, at: usize, byte: u8) -> usize {
     if at < out.len() {
         out[at] = byte;
         return at + 1;
     }
     io::write_all(STDOUT_FILENO, out);
-    if 0 < out.len() {
-        out[0] = byte;
-        return 1;
-    }
-    0
+    out[0] = byte;
+    1
 }
 
-pub fn put_bytes(out: &mut [u8], at: usize, bytes: &[u8]) -> usize {
+pub(crate) fn put_bytes(out: &mut Output, at: usize, bytes: &[u8]) -> usize {
     let mut to = at;
     let mut i: usize = 0;
     while i < bytes.len() {
@@ -26,34 +25,20 @@ pub fn put_bytes(out: &mut [u8], at: usize, bytes: &[u8]) -> usize {
     to
 }
 
-pub fn put_number(out: &mut [u8], at: usize, n: u64) -> usize {
+pub(crate) fn put_number(out: &mut Output, at: usize, n: u64) -> usize {
     let mut digits = [0u8; 20];
     let k = io::decimal(n, &mut digits);
     put_bytes(out, at, &digits[..k])
 }
 
-// Puts a word and a number after it.
-pub fn put_numbered(out: &mut [u8], at: usize, word: &[u8], n: u64) -> usize {
-    let to = put_bytes(out, at, word);
-    put_number(out, to, n)
-}
-
-pub fn put_flag(out: &mut [u8], at: usize, word: &[u8], flag: bool) -> usize {
-    let to = put_bytes(out, at, word);
-    if flag {
-        return put(out, to, b'1');
-    }
-    put(out, to, b'0')
-}
-
 // Puts a byte as two hexadecimal digits.
-fn put_hex(out: &mut [u8], at: usize, byte: u8) -> usize {
+fn put_hex(out: &mut Output, at: usize, byte: u8) -> usize {
     let mut digits = [0u8; 16];
     let k = io::hex(byte as u64, 2, &mut digits);
     put_bytes(out, at, &digits[..k])
 }
 
-pub fn put_hex_bytes(out: &mut [u8], at: usize, bytes: &[u8]) -> usize {
+pub(crate) fn put_hex_bytes(out: &mut Output, at: usize, bytes: &[u8]) -> usize {
     let mut to = at;
     let mut i: usize = 0;
     while i < bytes.len() {
@@ -64,7 +49,7 @@ pub fn put_hex_bytes(out: &mut [u8], at: usize, bytes: &[u8]) -> usize {
 }
 
 // Puts a member of a set where it is one, and a comma where more follow: the set is here shifted so that it is bit 0.
-fn put_member(out: &mut [u8], at: usize, member: u64, shifted: u64) -> usize {
+fn put_member(out: &mut Output, at: usize, member: u64, shifted: u64) -> usize {
     if shifted % 2 == 0 {
         return at;
     }
@@ -75,9 +60,9 @@ fn put_member(out: &mut [u8], at: usize, member: u64, shifted: u64) -> usize {
     put(out, to, b',')
 }
 
-// Puts a word and the members of a set in ascending order, with a comma between them.
-pub fn put_set(out: &mut [u8], at: usize, word: &[u8], set: u64) -> usize {
-    let mut to = put_bytes(out, at, word);
+// Puts the members of a set in ascending order, with a comma between them.
+pub(crate) fn put_set(out: &mut Output, at: usize, set: u64) -> usize {
+    let mut to = at;
     let mut shifted = set;
     let mut member: u64 = 0;
     while member < 64 {
@@ -89,6 +74,6 @@ pub fn put_set(out: &mut [u8], at: usize, word: &[u8], set: u64) -> usize {
 }
 
 // Writes out what is still in the buffer.
-pub fn write_rest(out: &[u8], at: usize) {
+pub(crate) fn write_rest(out: &Output, at: usize) {
     io::write_all(STDOUT_FILENO, part(out, 0, at));
 }

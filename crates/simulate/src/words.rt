@@ -1,19 +1,18 @@
-// The words and numbers of a line.
-use text::byte_at;
+// The pieces of a text that a byte parts: the words of a line, the lines of a text; and the numbers that words are.
 use text::part;
 use text::same_bytes;
 
-// A number of 64 bits, or that a word is none.
-pub enum Read {
-    Is(u64),
-    Bad,
+// A number of 64 bits, where a word is one.
+pub(crate) struct Read {
+    pub(crate) good: bool,
+    pub(crate) value: u64,
 }
 
-// Where the word that begins at a place ends: at the next space, or at the line's end.
-fn word_end(line: &[u8], at: usize) -> usize {
+// Where the piece that begins at a place ends: at the next parting byte, or at the text's end.
+fn piece_end(text: &[u8], parting: u8, at: usize) -> usize {
     let mut end = at;
-    while end < line.len() {
-        if line[end] == b' ' {
+    while end < text.len() {
+        if text[end] == parting {
             break;
         }
         end += 1;
@@ -21,17 +20,17 @@ fn word_end(line: &[u8], at: usize) -> usize {
     end
 }
 
-// Where word k begins, counted from 0; past the end where there are fewer.
-fn word_start(line: &[u8], k: usize) -> usize {
+// Where piece k begins, counted from 0; the text's end where there are fewer.
+fn piece_start(text: &[u8], parting: u8, k: usize) -> usize {
     let mut left = k;
     let mut at: usize = 0;
-    while at < line.len() {
+    while at < text.len() {
         if left == 0 {
             break;
         }
         let next = at + 1;
         let fewer = left - 1;
-        if line[at] == b' ' {
+        if text[at] == parting {
             left = fewer;
         }
         at = next;
@@ -39,20 +38,20 @@ fn word_start(line: &[u8], k: usize) -> usize {
     at
 }
 
-// Word k of a line, counted from 0. Words are parted by exactly one space, so a word may have no bytes.
-pub fn word(line: &[u8], k: usize) -> &[u8] {
-    let start = word_start(line, k);
-    part(line, start, word_end(line, start))
+// Piece k of a text, counted from 0. Pieces are parted by exactly one byte, so a piece may have no bytes.
+pub(crate) fn piece(text: &[u8], parting: u8, k: usize) -> &[u8] {
+    let start = piece_start(text, parting, k);
+    part(text, start, piece_end(text, parting, start))
 }
 
-// How many words a line has: one more than its spaces.
-pub fn words(line: &[u8]) -> usize {
+// How many pieces a text has: one more than its parting bytes.
+pub(crate) fn pieces(text: &[u8], parting: u8) -> usize {
     let mut count: usize = 1;
     let mut at: usize = 0;
-    while at < line.len() {
+    while at < text.len() {
         let next = at + 1;
         let more = count + 1;
-        if line[at] == b' ' {
+        if text[at] == parting {
             count = more;
         }
         at = next;
@@ -60,73 +59,83 @@ pub fn words(line: &[u8]) -> usize {
     count
 }
 
-// The place of a word in a list of words, counted from 0; as many as there are where it is none of them.
-pub fn place(list: &[u8], wanted: &[u8]) -> usize {
-    let count = words(list);
+// Word k of a line.
+pub(crate) fn word(line: &[u8], k: usize) -> &[u8] {
+    piece(line, b' ', k)
+}
+
+// How many words a line has.
+pub(crate) fn words(line: &[u8]) -> usize {
+    pieces(line, b' ')
+}
+
+// The place of a word among the choices that `|` parts, counted from 0.
+pub(crate) fn place(choices: &[u8], wanted: &[u8]) -> Read {
+    let count = pieces(choices, b'|');
     let mut k: usize = 0;
     while k < count {
-        if same_bytes(word(list, k), wanted) {
+        if same_bytes(piece(choices, b'|', k), wanted) {
             break;
         }
         k += 1;
     }
-    k
+    Read {
+        good: k < count,
+        value: k as u64,
+    }
 }
 
 // A number with one more decimal digit, where it still fits 64 bits.
-fn with_digit(n: u64, digit: u8) -> Read {
+fn with_digit(read: Read, digit: u8) -> Read {
+    let n = read.value;
+    let bad = Read {
+        good: false,
+        value: 0,
+    };
     if digit < b'0' {
-        return Read::Bad;
+        return bad;
     }
     if b'9' < digit {
-        return Read::Bad;
+        return bad;
     }
     let more = (digit - b'0') as u64;
     if n < 1844674407370955161 {
-        return Read::Is(n * 10 + more);
+        return Read {
+            good: read.good,
+            value: n * 10 + more,
+        };
     }
     if n == 1844674407370955161 {
         if more < 6 {
-            return Read::Is(n * 10 + more);
+            return Read {
+                good: read.good,
+                value: n * 10 + more,
+            };
         }
     }
-    Read::Bad
+    bad
 }
 
 // The number that a word of 1 to 20 digits is.
-pub fn number(word: &[u8]) -> Read {
-    if word.len() == 0 {
-        return Read::Bad;
-    }
-    if 20 < word.len() {
-        return Read::Bad;
-    }
-    let mut n: u64 = 0;
+pub(crate) fn number(word: &[u8]) -> Read {
+    let n = word.len();
+    let mut read = Read {
+        good: (0 < n) & (n <= 20),
+        value: 0,
+    };
     let mut i: usize = 0;
     while i < word.len() {
-        let Read::Is(more) = with_digit(n, word[i]) else {
-            return Read::Bad;
-        };
-        n = more;
+        read = with_digit(read, word[i]);
         i += 1;
     }
-    Read::Is(n)
+    read
 }
 
-// A number below a limit.
-pub fn number_below(word: &[u8], limit: u64) -> Read {
+// A number that is at most so much.
+pub(crate) fn number_to(word: &[u8], most: u64) -> Read {
     let read = number(word);
-    let Read::Is(n) = read else {
-        return Read::Bad;
-    };
-    if n < limit { read } else { Read::Bad }
-}
-
-// The place of a word in a list, as a number.
-pub fn place_in(list: &[u8], wanted: &[u8]) -> Read {
-    let k = place(list, wanted);
-    if k < words(list) {
-        return Read::Is(k as u64);
+    Read {
+        good: read.good & (read.value <= most),
+        value: read.value,
     }
-    Read::Bad
 }

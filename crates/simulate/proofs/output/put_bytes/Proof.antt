@@ -1,13 +1,12 @@
 -- `put_bytes` is safe and ends: what is left of the bytes falls.
 use borrow.Author.Needs.{needs}
-use mathlib.Core.Path.{_≡_}
 use Prim.Native.Nat.{_-_, _≤_}
 use lib.ListN.{length}
 use Rattle.simulate.proofs.output.put_bytes.Statement.{statement}
 use Rattle.simulate.proofs.output.put_bytes.Tie as tie
 
 abbrev Inv-loop : tie.InvT-loop
-Inv-loop out₀ at bytes to₀ i₀ out to i = (i ≤ length bytes) × (length out ≡ length out₀)
+Inv-loop out₀ at bytes to₀ i₀ out to i = i ≤ length bytes
 
 abbrev μ-loop : tie.MeasureT-loop
 μ-loop out₀ at bytes to₀ i₀ out to i = length bytes - i
@@ -21,7 +20,6 @@ put-bytes-spec =
     (λ c. search needs)
     (λ c. search needs)
     (λ c κs. search needs)
-    (λ c. search needs)
     (λ c. search needs)
     (λ c. search needs)
     (λ c. search needs)

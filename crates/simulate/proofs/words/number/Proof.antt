@@ -6,10 +6,10 @@ use Rattle.simulate.proofs.words.number.Statement.{statement}
 use Rattle.simulate.proofs.words.number.Tie as tie
 
 abbrev Inv-loop : tie.InvT-loop
-Inv-loop word n₀ i₀ n i = i ≤ length word
+Inv-loop word n read₀ i₀ read i = i ≤ length word
 
 abbrev μ-loop : tie.MeasureT-loop
-μ-loop word n₀ i₀ n i = length word - i
+μ-loop word n read₀ i₀ read i = length word - i
 
 pub number-spec : {M : Type 1} → statement M
 number-spec =
@@ -19,12 +19,7 @@ number-spec =
     μ-loop
     (λ c. search needs)
     (λ c. search needs)
-    (λ c. search needs)
-    (λ c. search needs)
     (λ c κs. search needs)
-    (λ c. search needs)
-    (λ c. search needs)
-    (λ c. search needs)
     (λ c. search needs)
     (λ c. search needs)
     (λ c. search needs)

@@ -1,0 +1,27 @@
+-- `put_records` is safe and ends: it counts up to the most services.
+use borrow.Author.Needs.{needs}
+use Prim.Native.Nat.{_-_, _≤_}
+use Rattle.simulate.proofs.listing.put_records.Statement.{statement}
+use Rattle.simulate.proofs.listing.put_records.Tie as tie
+
+abbrev Inv-loop : tie.InvT-loop
+Inv-loop out₀ at texts count x to₀ s₀ out to s = s ≤ 32
+
+abbrev μ-loop : tie.MeasureT-loop
+μ-loop out₀ at texts count x to₀ s₀ out to s = 32 - s
+
+pub put-records-spec : {M : Type 1} → statement M
+put-records-spec =
+    tie.close
+    (tie.spec
+    Inv-loop
+    μ-loop
+    (λ c. search needs)
+    (λ c. search needs)
+    (λ c. search needs)
+    (λ c κs. search needs)
+    (λ c. search needs)
+    (λ c. search needs)
+    (λ c. search needs)
+    (λ c. search needs)
+    (λ c. search needs))

@@ -1,0 +1,28 @@
+-- `put_services` is safe and ends: it counts up to the most services.
+use borrow.Author.Needs.{needs}
+use Prim.Native.Nat.{_-_, _≤_}
+use Rattle.simulate.proofs.listing.put_services.Statement.{statement}
+use Rattle.simulate.proofs.listing.put_services.Tie as tie
+
+abbrev Inv-loop : tie.InvT-loop
+Inv-loop out₀ at texts lent positions t to₀ s₀ out to s = s ≤ 32
+
+abbrev μ-loop : tie.MeasureT-loop
+μ-loop out₀ at texts lent positions t to₀ s₀ out to s = 32 - s
+
+pub put-services-spec : {M : Type 1} → statement M
+put-services-spec =
+    tie.close
+    (tie.spec
+    Inv-loop
+    μ-loop
+    (λ c. search needs)
+    (λ c. search needs)
+    (λ c. search needs)
+    (λ c κs. search needs)
+    (λ c κs. search needs)
+    (λ c. search needs)
+    (λ c. search needs)
+    (λ c. search needs)
+    (λ c. search needs)
+    (λ c. search needs))

@@ -1,0 +1,26 @@
+-- `token_bytes` is safe and ends: it counts up to the most services.
+use borrow.Author.Needs.{needs}
+use Prim.Native.Nat.{_-_, _≤_}
+use Rattle.simulate.proofs.listing.token_bytes.Statement.{statement}
+use Rattle.simulate.proofs.listing.token_bytes.Tie as tie
+
+abbrev Inv-loop : tie.InvT-loop
+Inv-loop tokens commands at₀ s₀ at s = s ≤ 32
+
+abbrev μ-loop : tie.MeasureT-loop
+μ-loop tokens commands at₀ s₀ at s = 32 - s
+
+pub token-bytes-spec : {M : Type 1} → statement M
+token-bytes-spec =
+    tie.close
+    (tie.spec
+    Inv-loop
+    μ-loop
+    (λ c. search needs)
+    (λ c. search needs)
+    (λ c. search needs)
+    (λ c κs. search needs)
+    (λ c. search needs)
+    (λ c. search needs)
+    (λ c. search needs)
+    (λ c. search needs))

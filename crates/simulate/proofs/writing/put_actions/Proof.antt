@@ -1,0 +1,27 @@
+-- `put_actions` is safe and ends: it counts up to the number of actions.
+use borrow.Author.Needs.{needs}
+use Prim.Native.Nat.{_-_, _≤_}
+use Rattle.simulate.proofs.writing.put_actions.Statement.{statement}
+use Rattle.simulate.proofs.writing.put_actions.Tie as tie
+
+abbrev Inv-loop : tie.InvT-loop
+Inv-loop out₀ at texts count services actions to₀ i₀ out to i = i ≤ count
+
+abbrev μ-loop : tie.MeasureT-loop
+μ-loop out₀ at texts count services actions to₀ i₀ out to i = count - i
+
+pub put-actions-spec : {M : Type 1} → statement M
+put-actions-spec =
+    tie.close
+    (tie.spec
+    Inv-loop
+    μ-loop
+    (λ c. search needs)
+    (λ c κs. search needs)
+    (λ c κs. search needs)
+    (λ c κs. search needs)
+    (λ c κs. search needs)
+    (λ c. search needs)
+    (λ c. search needs)
+    (λ c. search needs)
+    (λ c. search needs))

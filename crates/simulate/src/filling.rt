@@ -1,0 +1,90 @@
+// A text with numbers in the places of its marks, put into the output.
+use crate::output::Output;
+use crate::output::put;
+use crate::output::put_bytes;
+use crate::output::put_number;
+use crate::output::put_set;
+use crate::texts::CAUSES;
+use crate::texts::KINDS;
+use crate::texts::PHASES;
+use crate::texts::RESTARTS;
+use crate::texts::SIGNALS;
+use crate::words::piece;
+use crate::words::word;
+
+fn is_mark(byte: u8) -> bool {
+    (byte == b'#') | (byte == b'~') | ((b'A' <= byte) & (byte <= b'Z'))
+}
+
+// The list of names that a mark stands for.
+fn list_of(mark: u8) -> usize {
+    match mark {
+        b'P' => PHASES,
+        b'C' => CAUSES,
+        b'K' => KINDS,
+        b'G' => SIGNALS,
+        _ => RESTARTS,
+    }
+}
+
+fn put_name(out: &mut Output, at: usize, texts: &[u8], mark: u8, number: u64) -> usize {
+    let list = piece(texts, b'\n', list_of(mark));
+    put_bytes(out, at, word(list, number as usize))
+}
+
+// Puts a byte of a text, or a number in the place of a mark.
+fn put_mark(out: &mut Output, at: usize, texts: &[u8], byte: u8, number: u64) -> usize {
+    match byte {
+        b'~' => at,
+        b'#' => put_number(out, at, number),
+        b'M' => put_set(out, at, number),
+        b'P' | b'C' | b'K' | b'G' | b'Y' => put_name(out, at, texts, byte, number),
+        _ => put(out, at, byte),
+    }
+}
+
+pub(crate) fn number_at(numbers: &[u64], i: usize) -> u64 {
+    if i < numbers.len() { numbers[i] } else { 0 }
+}
+
+// Puts a text with a number at each mark, from the second number on.
+fn put_marked(out: &mut Output, at: usize, texts: &[u8], text: &[u8], numbers: &[u64]) -> usize {
+    let mut to = at;
+    let mut k: usize = 1;
+    let mut i: usize = 0;
+    while i < text.len() {
+        let byte = text[i];
+        let next = i + 1;
+        let more = k + 1;
+        to = put_mark(out, to, texts, byte, number_at(numbers, k));
+        if is_mark(byte) {
+            k = more;
+        }
+        i = next;
+    }
+    to
+}
+
+// Puts a text of the format: the first number is its place, and the others are those of its marks.
+pub(crate) fn put_text(out: &mut Output, at: usize, texts: &[u8], numbers: &[u64]) -> usize {
+    let text = piece(texts, b'\n', number_at(numbers, 0) as usize);
+    put_marked(out, at, texts, text, numbers)
+}
+
+// Puts a text of the format as a line.
+pub(crate) fn put_line(out: &mut Output, at: usize, texts: &[u8], numbers: &[u64]) -> usize {
+    let to = put_text(out, at, texts, numbers);
+    put(out, to, b'\n')
+}
+
+// Puts a text of the format that has one number.
+pub(crate) fn put_numbered(
+    out: &mut Output,
+    at: usize,
+    texts: &[u8],
+    text: usize,
+    n: u64,
+) -> usize {
+    let numbers = [text as u64, n];
+    put_text(out, at, texts, &numbers)
+}
