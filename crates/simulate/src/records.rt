@@ -9,6 +9,7 @@ use crate::names::phase_number;
 use crate::names::phase_of;
 use crate::names::signal_number;
 use crate::texts::RECORD;
+use crate::texts::RECORD_TIMED;
 use crate::texts::SETTINGS;
 use service::MAX_SERVICES;
 use service::Record;
@@ -27,12 +28,12 @@ fn flag(value: bool) -> u64 {
     if value { 1 } else { 0 }
 }
 
-// The text of a record: the one with a deadline's time follows the one without.
+// The text of a record, with a deadline's time or without.
 fn record_text(timed: u64) -> u64 {
     if timed == 0 {
         return RECORD as u64;
     }
-    (RECORD + 1) as u64
+    RECORD_TIMED as u64
 }
 
 pub(crate) fn record_line(s: usize, r: Record) -> RecordLine {
