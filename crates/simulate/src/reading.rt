@@ -68,7 +68,7 @@ fn begins(form: &[u8], line: &[u8], count: usize) -> bool {
     let mut k: usize = 0;
     while k < count {
         let read = value_at(form, line, k);
-        if read.good {} else {
+        if !read.good {
             break;
         }
         k += 1;
@@ -129,7 +129,7 @@ fn read_positions(line: &[u8], count: usize, positions: &mut Positions) -> bool 
     let mut k: usize = 2;
     while k < count {
         let read = number(word(line, k));
-        if read.good {} else {
+        if !read.good {
             return false;
         }
         put_position(positions, k - 2, read.value);
