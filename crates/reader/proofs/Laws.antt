@@ -35,9 +35,6 @@ module _ (s : List ℕ) (i : ℕ) {e : ℕ} (h : i < length s) (at : e ≡ i + l
       let n : length l ≡ length (lineOf (drop i s)) = ap length (p ∙ line-part s i h at) in
       omega (arith, n, end-fits s i h at)
 
-  pub next-inside : {l : List ℕ} → l ≡ partOf s i e → e ≡ i + length l
-  next-inside {l} p = at ∙ ap (λ (x : List ℕ). i + length x) (sym (p ∙ line-part s i h at))
-
 -- the places of a line's opening are within it
 pub opened-inside : (l : List ℕ) {o : Opening} → o ≡ opening l → Inside (length l) o
 opened-inside l e = rw e (opening-inside l)

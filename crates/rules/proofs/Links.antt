@@ -4,7 +4,7 @@ use Prim.Native.Nat.{_<_, _≤_, ℕ}
 use borrow.Author.Tests.{le-leb, leb-true}
 use lib.Bits.{bitOr}
 use mathlib.Core.Bool.{false, true}
-use mathlib.Core.Logic.{_↔_, inl, inr}
+use mathlib.Core.Logic.{_↔_, inl}
 use mathlib.Core.Path.{_∙_, _≡_, sym}
 use Rattle.base.specs.Links.{Path, cyclic, link, on}
 use Rattle.base.specs.Sets.{hasBit}
@@ -27,12 +27,6 @@ unfolding strong depends strongLinks allLinks
 strong-depends t s d h =
     hasBit-or (bitOr (settingsAt t s .hard) (settingsAt t s .milestone)) (settingsAt t s .soft) d
     ∙ or-true (hasBit (bitOr (settingsAt t s .hard) (settingsAt t s .milestone)) d) _ .1 (inl h)
-
-pub soft-depends : (t : Table) (s d : ℕ) → soft t s d ≡ true → depends t s d ≡ true
-unfolding soft depends allLinks
-soft-depends t s d h =
-    hasBit-or (bitOr (settingsAt t s .hard) (settingsAt t s .milestone)) (settingsAt t s .soft) d
-    ∙ or-true (hasBit (bitOr (settingsAt t s .hard) (settingsAt t s .milestone)) d) _ .1 (inr h)
 
 pub hard-depends : (t : Table) (s d : ℕ) → hard t s d ≡ true → depends t s d ≡ true
 hard-depends t s d h = strong-depends t s d (hard-strong t s d h)

@@ -109,13 +109,6 @@ test-end-lives = refl
 pub end-lives : (k : Kind) (p : Phase) (l : Bool) (c : Cause) (b : Bool) → shaped k p l c ≡ true → isUp p ≡ true → not (nothingToEnd k b l) ≡ true → not (isScripted k) ≡ true → l ≡ true
 end-lives = simp finite at test-end-lives
 
-test-expire-lives : kinds (λ k. phases (λ p. bools (λ l. causes (λ c. bools (λ b. given (shaped k p l c) (given (isStarting p || isEnding p && b) (l))))))) ≡ true
-unfolding kinds phases bools causes given
-test-expire-lives = refl
-
-pub expire-lives : (k : Kind) (p : Phase) (l : Bool) (c : Cause) (b : Bool) → shaped k p l c ≡ true → (isStarting p || isEnding p && b) ≡ true → l ≡ true
-expire-lives = simp finite at test-expire-lives
-
 test-ending-lives : kinds (λ k. phases (λ p. bools (λ l. causes (λ c. given (shaped k p l c) (given (isEnding p) (l)))))) ≡ true
 unfolding kinds phases bools causes given
 test-ending-lives = refl

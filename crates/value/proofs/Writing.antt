@@ -5,7 +5,7 @@ use Prim.Native.Nat.{ℕ, suc, _+_, _≤_}
 use native.Mathlib.Numerals.{add-one}
 use native.Mathlib.Nat.{add-zero, zero-add, add-suc, suc-add, sub-zero}
 use native.Mathlib.Omega.{arith}
-use lib.ListN.{length, drop, set, length-set, length-append}
+use lib.ListN.{length, drop, set, length-set}
 use lib.Seq.{sets, sets-eq, length-sets, take-append-seam}
 use borrow.Author.Tests.{le-leb}
 use Rattle.text.specs.Strings.{partOf}
@@ -40,13 +40,6 @@ ends {o = o} w = record { buffer = sym (w .stores); next = sym (w .places ∙ ad
 pub sets-append : (d : List ℕ) (a : ℕ) (xs ys : List ℕ) → sets d a (xs ++ ys) ≡ sets (sets d a xs) (a + length xs) ys
 sets-append d a [] ys = rw (add-zero a)
 sets-append d a (x ∷ xs) ys = sets-append (set d a x) (suc a) xs ys ∙ rw (add-suc a (length xs), suc-add a (length xs))
-
-pub puts-then : {d : List ℕ} {a : ℕ} {xs d′ : List ℕ} {r : ℕ} {ys d″ : List ℕ} {r′ : ℕ}
-    → Puts d a xs d′ r → Puts d′ r ys d″ r′ → Puts d a (xs ++ ys) d″ r′
-puts-then {d} {a} {xs} {ys = ys} p q = record {
-  buffer = q .buffer ∙ rw (p .buffer, p .next, sets-append d a xs ys);
-  next = q .next ∙ rw (p .next, length-append xs ys) (omega arith);
-}
 
 -- what was stored at the start stands there
 pub puts-part : {d vs d′ : List ℕ} {r : ℕ} → length vs ≤ length d → Puts d 0 vs d′ r → partOf d′ 0 r ≡ vs
