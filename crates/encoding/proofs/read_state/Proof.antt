@@ -1,0 +1,12 @@
+-- `read_state` meets its contract: the clock, and records that were read over fresh ones.
+use borrow.Author.Needs.{needs}
+use Rattle.encoding.proofs.Laws.{state-read}
+use Rattle.encoding.proofs.read_state.Statement.{statement}
+use Rattle.encoding.proofs.read_state.Tie as tie
+
+returns : tie.Need-returns
+returns c = state-read _ (c .before .before .fresh .ensures) (c .before .read-records .ensures)
+
+pub read-state-spec : {M : Type 1} → statement M
+read-state-spec =
+    tie.close (tie.spec (λ c κs. search needs) (λ c κs. search needs) (λ c. search needs) returns)

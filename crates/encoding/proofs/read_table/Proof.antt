@@ -1,0 +1,12 @@
+-- `read_table` meets its contract: the count, and settings that were read over default ones.
+use borrow.Author.Needs.{needs}
+use Rattle.encoding.proofs.Laws.{table-read}
+use Rattle.encoding.proofs.read_table.Statement.{statement}
+use Rattle.encoding.proofs.read_table.Tie as tie
+
+returns : tie.Need-returns
+returns c = table-read _ (c .before .before .default .ensures) (c .before .read-services .ensures)
+
+pub read-table-spec : {M : Type 1} → statement M
+read-table-spec =
+    tie.close (tie.spec (λ c κs. search needs) (λ c κs. search needs) (λ c. search needs) returns)

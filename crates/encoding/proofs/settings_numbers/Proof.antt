@@ -1,0 +1,17 @@
+-- `settings_numbers` meets its contract: field by field.
+use borrow.Author.Needs.{needs}
+use Rattle.encoding.proofs.settings_numbers.Statement.{statement}
+use Rattle.encoding.proofs.settings_numbers.Tie as tie
+
+returns : tie.Need-returns
+returns c = rw (c .flag-number2 .ensures, c .before .signal-number .ensures, c .before .before .flag-number .ensures, c .before .before .before .kind-number .ensures)
+
+pub settings-numbers-spec : {M : Type 1} → statement M
+settings-numbers-spec =
+    tie.close
+    (tie.spec
+    (λ c κs. search needs)
+    (λ c κs. search needs)
+    (λ c κs. search needs)
+    (λ c κs. search needs)
+    returns)
