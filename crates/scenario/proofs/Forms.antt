@@ -1,0 +1,46 @@
+-- The laws of a line and a form, one for each answer of a function; the premises stand as the callees' contracts give them.
+use Prim.Native.Nat.{ℕ, _-_}
+use mathlib.Core.Path.{_≡_}
+use mathlib.Core.Bool.{Bool, true, false}
+use mathlib.Core.List.{List}
+use lib.Dec.{eqb}
+use lib.ListN.{getD, drop}
+use Rattle.base.specs.Folds.{pick}
+use Rattle.words.specs.declared.Read.{Read}
+use Rattle.words.specs.Numbers.{numberOf, numberTo}
+use Rattle.words.specs.Pieces.{placeOf}
+use Rattle.scenario.specs.Forms.{wordOf, wordCount, mostOf, valueOf, valueAt, beginsAs, fitsForm, readForm}
+
+-- the word of a form is # and what follows it
+pub most-read : (f : List ℕ) {t : List ℕ} {r : Read} {b : Bool} → t ≡ drop 1 f → r ≡ numberOf t → r .good ≡ b
+    → pick b (r .value) 18446744073709551615 ≡ mostOf f
+unfolding mostOf
+most-read f p q g = rw (← p, ← q, g)
+
+-- a word of a form that is a number, or choices
+module _ (f w : List ℕ) {b : ℕ} {r : Read} (first : b ≡ getD f 0 0) where
+  pub value-number : {m : ℕ} → eqb b 35 ≡ true → m ≡ mostOf f → r ≡ numberTo w m → r ≡ valueOf f w
+  unfolding valueOf
+  value-number t p q = rw (← first, t, ← p) q
+
+  pub value-choice : eqb b 35 ≡ false → r ≡ placeOf f 124 w → r ≡ valueOf f w
+  unfolding valueOf
+  value-choice t q = rw (← first, t) q
+
+module _ (form l : List ℕ) where
+  pub value-there : (k : ℕ) {f w : List ℕ} {r : Read} → f ≡ wordOf form k → w ≡ wordOf l k → r ≡ valueOf f w → r ≡ valueAt form l k
+  value-there k p q h = rw (← p, ← q) h
+
+  -- as many words as the form, or not
+  pub fits-as-long : {n m : ℕ} {r : Bool} → n ≡ wordCount form → m ≡ wordCount l → eqb m n ≡ true → r ≡ beginsAs form l n → r ≡ fitsForm form l
+  unfolding fitsForm
+  fits-as-long p q t h = rw (← p, ← q, t) h
+
+  pub fits-not : {n m : ℕ} → n ≡ wordCount form → m ≡ wordCount l → eqb m n ≡ false → false ≡ fitsForm form l
+  unfolding fitsForm
+  fits-not p q t = rw (← p, ← q, t)
+
+  pub form-read : (verb : ℕ) {n : ℕ} {a z : Read} → n ≡ wordCount form → a ≡ valueAt form l 1 → z ≡ valueAt form l (n - 1)
+      → record { verb = verb; first = a .value; last = z .value } ≡ readForm form l verb
+  unfolding readForm
+  form-read verb p q h = rw (← p, ← q, ← h)

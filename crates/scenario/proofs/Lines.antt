@@ -1,0 +1,62 @@
+-- The laws of a line, one for each answer of a function; the premises stand as the callees' contracts give them.
+use Prim.Native.Nat.{ℕ, _+_, _-_, _≤_, _<_}
+use mathlib.Core.Path.{_≡_}
+use mathlib.Core.Bool.{Bool, true, false, _&&_, _||_}
+use mathlib.Core.List.{List, []}
+use lib.Dec.{eqb, ltb}
+use lib.ListN.{length, getD}
+use borrow.Author.Tests.{le-leb, lt-leb}
+use Rattle.base.specs.Folds.{pick}
+use Rattle.text.specs.Strings.{bytes, same}
+use Rattle.words.specs.declared.Read.{Read}
+use Rattle.scenario.specs.declared.Command.{Command}
+use Rattle.scenario.specs.Forms.{wordOf, wordCount, valueAt, beginsAs, formOf, readForm}
+use Rattle.scenario.specs.Lines.{load, badVerb, loadAt, nothing, begin, addLine, addPiece, plain, bad, mostPositions, areNumbers, readLoad, readParted, openingOf, readAny, hasNeeded, readAfter}
+
+-- a load with no position, with too many, and with as many as it may have
+module _ (form l : List ℕ) {n : ℕ} (count : n ≡ wordCount l) where
+  pub load-few : n < 3 → bad ≡ readLoad form l
+  unfolding readLoad
+  load-few h = rw (← count, lt-leb 3 n h)
+
+  pub load-many : 3 ≤ n → mostPositions + 2 < n → bad ≡ readLoad form l
+  unfolding readLoad
+  load-many h m = rw (← count, le-leb 3 n h, lt-leb n (mostPositions + 2) m)
+
+  pub load-read : {a : Read} {b q t : Bool} → 3 ≤ n → n ≤ mostPositions + 2 → a ≡ valueAt form l 1 → b ≡ beginsAs form l 2
+      → q ≡ areNumbers l (n - 2) → b && q ≡ t → pick t (record { verb = loadAt; first = a .value; last = n - 2 }) bad ≡ readLoad form l
+  unfolding readLoad
+  load-read h m x y z t = rw (← count, le-leb 3 n h, le-leb n (mostPositions + 2) m, ← x, ← y, ← z, t)
+
+-- a line that fits no form, or one
+module _ (forms : List (List ℕ)) (l : List ℕ) {verb : ℕ} {f : List ℕ} {r : Command} (found : verb ≡ formOf forms l) where
+  pub parted-none : eqb verb badVerb ≡ true → f ≡ getD forms load [] → r ≡ readLoad f l → r ≡ readParted forms l
+  unfolding readParted
+  parted-none t p h = rw (← found, t, ← p) h
+
+  pub parted-formed : eqb verb badVerb ≡ false → f ≡ getD forms verb [] → r ≡ readForm f l verb → r ≡ readParted forms l
+  unfolding readParted
+  parted-formed t p h = rw (← found, t, ← p) h
+
+-- what opens a line, by its first byte, its first word and the number of its words
+pub opening-found : (l : List ℕ) {b n : ℕ} {w : List ℕ} {s : Bool} → b ≡ getD l 0 0 → w ≡ wordOf l 0 → s ≡ same w (bytes "service") → n ≡ wordCount l
+    → openingOf l ≡ pick (eqb (length l) 0 || eqb b 37) nothing
+    (pick (s && ltb 1 n) begin (pick (eqb b 124) addLine (pick (eqb b 33) addPiece badVerb)))
+unfolding openingOf
+opening-found l p q h m = rw (p, h, q, m)
+
+-- a line that its opening does not tell, or does
+module _ (forms : List (List ℕ)) (l : List ℕ) {verb : ℕ} (opens : verb ≡ openingOf l) where
+  pub any-parted : {r : Command} → eqb verb badVerb ≡ true → r ≡ readParted forms l → r ≡ readAny forms l
+  unfolding readAny
+  any-parted t h = rw (← opens, t) h
+
+  pub any-plain : eqb verb badVerb ≡ false → plain verb ≡ readAny forms l
+  unfolding readAny
+  any-plain t = rw (← opens, t)
+
+-- a line that comes after what it needs, or before
+pub after-read : (forms : List (List ℕ)) (l : List ℕ) (begun loaded : Bool) {r : Command} {g t : Bool} → r ≡ readAny forms l
+    → g ≡ hasNeeded (r .verb) begun loaded → g ≡ t → pick t r bad ≡ readAfter forms l begun loaded
+unfolding readAfter
+after-read forms l begun loaded p q t = rw (← p, ← q, t)

@@ -1,0 +1,24 @@
+-- `read_form` meets its contract; a form has a word.
+use native.Mathlib.Omega.{arith}
+use denote.Ref.{now}
+use Rattle.words.proofs.Parting.{pieces-some}
+use Rattle.scenario.proofs.Forms.{form-read}
+use borrow.Author.Needs.{needs}
+use Rattle.scenario.proofs.read_form.Statement.{statement}
+use Rattle.scenario.proofs.read_form.Tie as tie
+
+sub-end : tie.Need-sub-end
+sub-end c = omega (arith, c .pieces .ensures, pieces-some 32 (now (c .before .before .before .args .form)))
+
+returns : tie.Need-returns
+returns c = form-read _ _ _ (c .before .before .pieces .ensures) (c .before .value-at .ensures) (c .value-at2 .ensures)
+
+pub read-form-spec : {M : Type 1} → statement M
+read-form-spec =
+    tie.close
+    (tie.spec
+    (λ c κs. search needs)
+    sub-end
+    (λ c κs. search needs)
+    (λ c κs. search needs)
+    returns)

@@ -1,0 +1,53 @@
+-- Worked examples of lines: one table, one statement.
+use Prim.Native.Nat.{ℕ}
+use Prim.Native.String.{String}
+use mathlib.Core.Bool.{Bool, true, false}
+use mathlib.Core.Path.{_≡_, refl}
+use mathlib.Core.List.{List, [], _∷_, map}
+use Rattle.base.specs.Folds.{every, first}
+use Rattle.text.specs.Strings.{bytes, same}
+use Rattle.words.specs.Numbers.{withDigit, numberFrom, numberOf, numberTo}
+use Rattle.words.specs.Pieces.{piecesOf, placeOf}
+use Rattle.scenario.specs.declared.Command.{Command}
+use Rattle.scenario.specs.Forms.{forms, mostOf, valueOf, beginsAs, fitsForm, formOf, readForm}
+use Rattle.scenario.specs.Lines.{loadAt, nothing, begin, addLine, addPiece, plain, bad, areNumbers, readLoad, readParted, openingOf, readAny, hasNeeded, readAfter, commandOf}
+
+-- a line, whether a service was begun and a set loaded before it, and what it asks for
+pub record Example : Type 0 where
+  pub line : String
+  pub begun : Bool
+  pub loaded : Bool
+  pub is : Command
+
+-- the verb with these two numbers
+abbrev pub asks : ℕ → ℕ → ℕ → Command
+asks v a b = record { verb = v; first = a; last = b }
+
+abbrev pub examples : List Example
+examples =
+    record { line = "next"; begun = true; loaded = true; is = plain 0 } ∷
+    record { line = "next"; begun = true; loaded = false; is = bad } ∷
+    record { line = "next "; begun = true; loaded = true; is = bad } ∷
+    record { line = "run 256 4"; begun = true; loaded = true; is = asks 2 256 4 } ∷
+    record { line = "run 257 4"; begun = true; loaded = true; is = bad } ∷
+    record { line = "end 1 good"; begun = true; loaded = true; is = asks 6 1 1 } ∷
+    record { line = "set 3 deadline none"; begun = true; loaded = true; is = asks 17 3 0 } ∷
+    record { line = "set 3 deadline 0070"; begun = true; loaded = true; is = asks 18 3 70 } ∷
+    record { line = "set 32 deadline none"; begun = true; loaded = true; is = bad } ∷
+    record { line = "load 40"; begun = false; loaded = false; is = asks 33 40 40 } ∷
+    record { line = "load 40 -"; begun = false; loaded = false; is = asks 34 40 0 } ∷
+    record { line = "load 40 3 9"; begun = false; loaded = false; is = asks loadAt 40 2 } ∷
+    record { line = "load 40 3 x"; begun = false; loaded = false; is = bad } ∷
+    record { line = "load 65537 3 9"; begun = false; loaded = false; is = bad } ∷
+    record { line = ""; begun = false; loaded = false; is = plain nothing } ∷
+    record { line = "% next"; begun = false; loaded = false; is = plain nothing } ∷
+    record { line = "service "; begun = false; loaded = false; is = plain begin } ∷
+    record { line = "service"; begun = true; loaded = true; is = bad } ∷
+    record { line = "|type = internal"; begun = true; loaded = false; is = plain addLine } ∷
+    record { line = "!x"; begun = true; loaded = false; is = plain addPiece } ∷
+    record { line = "!x"; begun = false; loaded = true; is = bad } ∷
+    []
+
+pub examples-hold : map (λ e. commandOf (bytes (e .line)) (e .begun) (e .loaded)) examples ≡ map (λ e. e .is) examples
+unfolding every first bytes same withDigit numberFrom numberOf numberTo piecesOf placeOf forms mostOf valueOf beginsAs fitsForm formOf readForm areNumbers readLoad readParted openingOf readAny hasNeeded readAfter commandOf
+examples-hold = refl

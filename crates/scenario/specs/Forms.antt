@@ -1,0 +1,92 @@
+-- What a line of a scenario may be, as forms, and how a line fits one.
+use Prim.Native.Nat.{ℕ, _-_}
+use mathlib.Core.Bool.{Bool, _&&_}
+use mathlib.Core.List.{List, [], _∷_, map}
+use lib.Dec.{eqb}
+use lib.ListN.{getD, drop}
+use Rattle.base.specs.Folds.{pick, every, first}
+use Rattle.text.specs.Strings.{bytes}
+use Rattle.words.specs.declared.Read.{Read}
+use Rattle.words.specs.Numbers.{numberOf, numberTo}
+use Rattle.words.specs.Pieces.{pieceOf, pieceCount, placeOf}
+use Rattle.scenario.specs.declared.Command.{Command}
+
+-- A form gives the words of a line: # stands for a number, #31 for one up to 31, and | parts the words of which a line has
+-- one. The place of a form, from 0, is the verb of the lines that fit it.
+unfoldable pub forms : List (List ℕ)
+unfolding bytes
+forms = map bytes (
+    "next" ∷
+    "run" ∷
+    "run #256 #256" ∷
+    "start #" ∷
+    "stop #" ∷
+    "stop-all" ∷
+    "end # bad|good" ∷
+    "clock #" ∷
+    "query" ∷
+    "state" ∷
+    "show" ∷
+    "set clock #" ∷
+    "set #31 phase down|waiting|starting|up|ending" ∷
+    "set #31 wanted 0|1" ∷
+    "set #31 aside 0|1" ∷
+    "set #31 live 0|1" ∷
+    "set #31 cause none|user|released|fell|failed" ∷
+    "set #31 deadline none" ∷
+    "set #31 deadline #" ∷
+    "set #31 killed 0|1" ∷
+    "set #31 not-before #" ∷
+    "set #31 last-launch #" ∷
+    "set #31 window-start #" ∷
+    "set #31 restarts #" ∷
+    "table count #" ∷
+    "table #31 restart-delay #" ∷
+    "table #31 restart-limit-interval #" ∷
+    "table #31 restart-limit-count #" ∷
+    "table #31 start-timeout #" ∷
+    "table #31 stop-timeout #" ∷
+    "table #31 depends-on #" ∷
+    "table #31 depends-ms #" ∷
+    "table #31 waits-for #" ∷
+    "load #65536" ∷
+    "load #65536 -" ∷
+    [])
+
+-- as many forms
+abbrev pub formCount : ℕ
+formCount = 35
+
+-- "Words of a line are parted by exactly one space"
+abbrev pub wordOf : List ℕ → ℕ → List ℕ
+wordOf l k = pieceOf l 32 k
+
+abbrev pub wordCount : List ℕ → ℕ
+wordCount l = pieceCount l 32
+
+-- the most that a number may be where a form has the word f
+unfoldable pub mostOf : List ℕ → ℕ
+mostOf f = pick (numberOf (drop 1 f) .good) (numberOf (drop 1 f) .value) 18446744073709551615
+
+-- the number that the word w is where a form has the word f: a number, or its place among the choices
+unfoldable pub valueOf : List ℕ → List ℕ → Read
+valueOf f w = pick (eqb (getD f 0 0) 35) (numberTo w (mostOf f)) (placeOf f 124 w)
+
+abbrev pub valueAt : List ℕ → List ℕ → ℕ → Read
+valueAt form l k = valueOf (wordOf form k) (wordOf l k)
+
+-- the first n words of a line fit those of a form
+unfoldable pub beginsAs : List ℕ → List ℕ → ℕ → Bool
+beginsAs form l n = every (λ k. valueAt form l k .good) n
+
+unfoldable pub fitsForm : List ℕ → List ℕ → Bool
+fitsForm form l = eqb (wordCount l) (wordCount form) && beginsAs form l (wordCount form)
+
+-- the first of the forms that a line fits, or past the last where it fits none
+unfoldable pub formOf : List (List ℕ) → List ℕ → ℕ
+formOf forms l = first (λ k. fitsForm (getD forms k []) l) formCount
+
+-- a line that fits a form, with the numbers of its second word and of its last
+unfoldable pub readForm : List ℕ → List ℕ → ℕ → Command
+readForm form l verb =
+    record { verb = verb; first = valueAt form l 1 .value; last = valueAt form l (wordCount form - 1) .value }
