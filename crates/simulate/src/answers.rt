@@ -1,6 +1,4 @@
-// The answers to the calls, as texts with their numbers.
-use crate::names::signal_number;
-use crate::reading::BAD;
+// The answers to the lines, as texts with their numbers.
 use crate::texts::BAD_LINE;
 use crate::texts::EARLIEST;
 use crate::texts::LAUNCH;
@@ -12,11 +10,17 @@ use crate::texts::OK_COUNT;
 use crate::texts::QUIET;
 use crate::texts::REFUSED;
 use crate::texts::RUN_COUNT;
-use crate::texts::SET_CLOCK;
-use crate::texts::SET_TABLE_LAST;
 use crate::texts::SIGNAL;
+use crate::texts::SILENT;
 use crate::texts::STOP_COMMAND;
+use actions::action_number;
+use actions::action_service;
+use actions::is_quiet;
+use encoding::refusal_number;
 use lent::Answer;
+use scenario::BAD;
+use scenario::SET_CLOCK;
+use scenario::SET_TABLE_LAST;
 use service::Action;
 use service::ActionAnswer;
 use service::Deadline;
@@ -36,9 +40,6 @@ pub(crate) struct Reply {
 // The same in numbers, as it is lent.
 pub(crate) type ReplyLine = [u64; 4];
 
-// In the place of a text: there is no answer.
-pub(crate) const SILENT: usize = 0;
-
 pub(crate) fn keep_reply(line: &mut ReplyLine, reply: Reply) {
     line[0] = reply.text as u64;
     line[1] = reply.first;
@@ -56,14 +57,7 @@ fn numbered(text: usize, first: u64) -> Reply {
 }
 
 fn refused(refusal: Refusal) -> Reply {
-    match refusal {
-        Refusal::IllFormed => numbered(REFUSED, 24),
-        Refusal::NoService => numbered(REFUSED, 20),
-        Refusal::NotLive => numbered(REFUSED, 21),
-        Refusal::ClockBack => numbered(REFUSED, 22),
-        Refusal::ClockPast => numbered(REFUSED, 23),
-        Refusal::NoRoom => numbered(REFUSED, 25),
-    }
+    numbered(REFUSED, refusal_number(refusal))
 }
 
 pub(crate) fn event_reply(answer: EventAnswer) -> Reply {
@@ -73,23 +67,34 @@ pub(crate) fn event_reply(answer: EventAnswer) -> Reply {
     }
 }
 
-// An action by its text, its service and its signal.
-fn act(text: usize, service: usize, signal: u64) -> Reply {
-    Reply {
-        text,
-        first: service as u64,
-        second: signal,
-        third: 0,
+// The text of an action by its number: three kinds, and then the signals.
+pub(crate) fn action_text(action: u64) -> usize {
+    match action {
+        0 => MOVED,
+        1 => LAUNCH,
+        2 => STOP_COMMAND,
+        _ => SIGNAL,
     }
 }
 
+// The place of its signal, where it has one.
+pub(crate) fn action_signal(action: u64) -> u64 {
+    if action < 3 {
+        return 0;
+    }
+    action - 3
+}
+
 fn action_reply(action: Action) -> Reply {
-    match action {
-        Action::Quiet => act(QUIET, 0, 0),
-        Action::Moved(s) => act(MOVED, s, 0),
-        Action::Launch(s) => act(LAUNCH, s, 0),
-        Action::StopCommand(s) => act(STOP_COMMAND, s, 0),
-        Action::Signal(s, signal) => act(SIGNAL, s, signal_number(signal)),
+    let number = action_number(action);
+    if is_quiet(action) {
+        return numbered(QUIET, 0);
+    }
+    Reply {
+        text: action_text(number),
+        first: action_service(action),
+        second: action_signal(number),
+        third: 0,
     }
 }
 
@@ -103,7 +108,7 @@ pub(crate) fn next_reply(answer: ActionAnswer) -> Reply {
 // The answer to a run, whose actions are listed elsewhere.
 pub(crate) fn run_reply(answer: RunAnswer) -> Reply {
     match answer {
-        RunAnswer::Ran(count) => act(RUN_COUNT, count, 0),
+        RunAnswer::Ran(count) => numbered(RUN_COUNT, count as u64),
         RunAnswer::Refused(refusal) => refused(refusal),
     }
 }
@@ -125,7 +130,7 @@ pub(crate) fn query_reply(answer: QueryAnswer) -> Reply {
 // The answer to a load of so many services.
 pub(crate) fn load_reply(answer: Answer, count: usize) -> Reply {
     match answer {
-        Answer::Accepted => act(OK_COUNT, count, 0),
+        Answer::Accepted => numbered(OK_COUNT, count as u64),
         Answer::Refused {
             number,
             service,

@@ -1,20 +1,24 @@
-// The calls: the state that each leaves, and its answer.
+// The calls: table and state are read from their numbers, and the state that a call gives back is written to them.
 use crate::answers::ReplyLine;
 use crate::answers::event_reply;
 use crate::answers::keep_reply;
 use crate::answers::next_reply;
 use crate::answers::query_reply;
 use crate::answers::run_reply;
-use crate::reading::Command;
-use crate::texts::CLOCK;
-use crate::texts::END;
-use crate::texts::NEXT;
-use crate::texts::QUERY;
-use crate::texts::RUN;
-use crate::texts::RUN_IN;
-use crate::texts::START;
-use crate::texts::STOP;
-use crate::texts::STOP_ALL;
+use encoding::Numbers;
+use encoding::read_state;
+use encoding::read_table;
+use encoding::write_state;
+use scenario::CLOCK;
+use scenario::Command;
+use scenario::END;
+use scenario::NEXT;
+use scenario::QUERY;
+use scenario::RUN;
+use scenario::RUN_IN;
+use scenario::START;
+use scenario::STOP;
+use scenario::STOP_ALL;
 use service::Changed;
 use service::Ran;
 use service::State;
@@ -31,39 +35,49 @@ fn event(t: Table, x: State, command: Command) -> Changed {
     let s = n as usize;
     let good = command.last == 1;
     match verb {
-        START => events::start(t, x, s),
-        STOP => events::stop(t, x, s),
-        STOP_ALL => events::stop_all(t, x),
-        END => events::end(t, x, s, good),
-        _ => events::clock(t, x, n),
+        START => engine::start(t, x, s),
+        STOP => engine::stop(t, x, s),
+        STOP_ALL => engine::stop_all(t, x),
+        END => engine::end(t, x, s, good),
+        _ => engine::clock(t, x, n),
     }
 }
 
-// Keeps the answer, and hands on the state.
-fn kept_event(changed: Changed, line: &mut ReplyLine) -> State {
+fn keep_event(changed: Changed, state: &mut Numbers, reply: &mut ReplyLine) {
     let answer = changed.answer;
-    keep_reply(line, event_reply(answer));
-    changed.state
+    write_state(state, changed.state);
+    keep_reply(reply, event_reply(answer));
 }
 
-fn call_event(t: Table, x: State, command: Command, line: &mut ReplyLine) -> State {
-    kept_event(event(t, x, command), line)
+fn call_event(table: &Numbers, state: &mut Numbers, command: Command, reply: &mut ReplyLine) {
+    let changed = event(read_table(table), read_state(state), command);
+    keep_event(changed, state, reply);
 }
 
-// Keeps the answer, and hands on the state.
-fn kept_next(stepped: Stepped, line: &mut ReplyLine) -> State {
+fn keep_next(stepped: Stepped, state: &mut Numbers, reply: &mut ReplyLine) {
     let answer = stepped.answer;
-    keep_reply(line, next_reply(answer));
-    stepped.state
+    write_state(state, stepped.state);
+    keep_reply(reply, next_reply(answer));
 }
 
-fn call_next(t: Table, x: State, line: &mut ReplyLine) -> State {
-    kept_next(engine::next_action(t, x), line)
+fn call_next(table: &Numbers, state: &mut Numbers, reply: &mut ReplyLine) {
+    let stepped = engine::next_action(read_table(table), read_state(state));
+    keep_next(stepped, state, reply);
 }
 
+fn run_to_quiet(
+    table: &Numbers,
+    state: &Numbers,
+    services: &mut [u64],
+    actions: &mut [u64],
+) -> Ran {
+    engine::run_to_quiet(read_table(table), read_state(state), services, actions)
+}
+
+// A run that is lent so many of the places.
 fn run_in(
-    t: Table,
-    x: State,
+    table: &Numbers,
+    state: &Numbers,
     a: usize,
     b: usize,
     services: &mut [u64],
@@ -71,10 +85,10 @@ fn run_in(
 ) -> Ran {
     if a <= services.len() {
         if b <= actions.len() {
-            return engine::run_to_quiet(t, x, &mut services[0..a], &mut actions[0..b]);
+            return run_to_quiet(table, state, &mut services[0..a], &mut actions[0..b]);
         }
     }
-    engine::run_to_quiet(t, x, services, actions)
+    run_to_quiet(table, state, services, actions)
 }
 
 // How many places a run is lent: those of the line, or all.
@@ -85,46 +99,46 @@ fn lent_places(verb: usize, n: u64) -> usize {
     n as usize
 }
 
-fn kept_run(ran: Ran, line: &mut ReplyLine) -> State {
+fn keep_run(ran: Ran, state: &mut Numbers, reply: &mut ReplyLine) {
     let answer = ran.answer;
-    keep_reply(line, run_reply(answer));
-    ran.state
+    write_state(state, ran.state);
+    keep_reply(reply, run_reply(answer));
 }
 
 fn call_run(
-    t: Table,
-    x: State,
+    table: &Numbers,
+    state: &mut Numbers,
     command: Command,
-    line: &mut ReplyLine,
+    reply: &mut ReplyLine,
     services: &mut Places,
     actions: &mut Places,
-) -> State {
+) {
     let a = lent_places(command.verb, command.first);
     let b = lent_places(command.verb, command.last);
-    kept_run(run_in(t, x, a, b, services, actions), line)
+    let ran = run_in(table, state, a, b, services, actions);
+    keep_run(ran, state, reply);
 }
 
-fn call_query(t: Table, x: State, line: &mut ReplyLine) -> State {
-    let answer = query::query(t, x);
-    keep_reply(line, query_reply(answer));
-    x
+fn call_query(table: &Numbers, state: &Numbers, reply: &mut ReplyLine) {
+    let answer = engine::query(read_table(table), read_state(state));
+    keep_reply(reply, query_reply(answer));
 }
 
-// The state after a line that may be a call, and the call's answer.
+// Makes the call of a line, where it is one, and keeps its answer.
 pub(crate) fn call(
-    t: Table,
-    x: State,
+    table: &Numbers,
+    state: &mut Numbers,
     command: Command,
-    line: &mut ReplyLine,
+    reply: &mut ReplyLine,
     services: &mut Places,
     actions: &mut Places,
-) -> State {
+) {
     let verb = command.verb;
     match verb {
-        NEXT => call_next(t, x, line),
-        RUN | RUN_IN => call_run(t, x, command, line, services, actions),
-        QUERY => call_query(t, x, line),
-        START..=CLOCK => call_event(t, x, command, line),
-        _ => x,
+        NEXT => call_next(table, state, reply),
+        RUN | RUN_IN => call_run(table, state, command, reply, services, actions),
+        QUERY => call_query(table, state, reply),
+        START..=CLOCK => call_event(table, state, command, reply),
+        _ => {}
     }
 }

@@ -9,8 +9,7 @@ use crate::texts::KINDS;
 use crate::texts::PHASES;
 use crate::texts::RESTARTS;
 use crate::texts::SIGNALS;
-use crate::words::piece;
-use crate::words::word;
+use words::piece;
 
 fn is_mark(byte: u8) -> bool {
     (byte == b'#') | (byte == b'~') | ((b'A' <= byte) & (byte <= b'Z'))
@@ -29,7 +28,7 @@ fn list_of(mark: u8) -> usize {
 
 fn put_name(out: &mut Output, at: usize, texts: &[u8], mark: u8, number: u64) -> usize {
     let list = piece(texts, b'\n', list_of(mark));
-    put_bytes(out, at, word(list, number as usize))
+    put_bytes(out, at, piece(list, b' ', number as usize))
 }
 
 // Puts a byte of a text, or a number in the place of a mark.
@@ -47,10 +46,10 @@ pub(crate) fn number_at(numbers: &[u64], i: usize) -> u64 {
     if i < numbers.len() { numbers[i] } else { 0 }
 }
 
-// Puts a text with a number at each mark, from the second number on.
+// Puts a text with a number at each mark.
 fn put_marked(out: &mut Output, at: usize, texts: &[u8], text: &[u8], numbers: &[u64]) -> usize {
     let mut to = at;
-    let mut k: usize = 1;
+    let mut k: usize = 0;
     let mut i: usize = 0;
     while i < text.len() {
         let byte = text[i];
@@ -65,15 +64,26 @@ fn put_marked(out: &mut Output, at: usize, texts: &[u8], text: &[u8], numbers: &
     to
 }
 
-// Puts a text of the format: the first number is its place, and the others are those of its marks.
-pub(crate) fn put_text(out: &mut Output, at: usize, texts: &[u8], numbers: &[u64]) -> usize {
-    let text = piece(texts, b'\n', number_at(numbers, 0) as usize);
-    put_marked(out, at, texts, text, numbers)
+// Puts a text of the format, by its place, with the numbers of its marks.
+pub(crate) fn put_text(
+    out: &mut Output,
+    at: usize,
+    texts: &[u8],
+    text: usize,
+    numbers: &[u64],
+) -> usize {
+    put_marked(out, at, texts, piece(texts, b'\n', text), numbers)
 }
 
-// Puts a text of the format as a line.
-pub(crate) fn put_line(out: &mut Output, at: usize, texts: &[u8], numbers: &[u64]) -> usize {
-    let to = put_text(out, at, texts, numbers);
+// The same as a line.
+pub(crate) fn put_line(
+    out: &mut Output,
+    at: usize,
+    texts: &[u8],
+    text: usize,
+    numbers: &[u64],
+) -> usize {
+    let to = put_text(out, at, texts, text, numbers);
     put(out, to, b'\n')
 }
 
@@ -85,6 +95,6 @@ pub(crate) fn put_numbered(
     text: usize,
     n: u64,
 ) -> usize {
-    let numbers = [text as u64, n];
-    put_text(out, at, texts, &numbers)
+    let numbers = [n];
+    put_text(out, at, texts, text, &numbers)
 }

@@ -1,9 +1,8 @@
 // The services that a scenario has given so far, as they are lent to a load: names and texts one after the other, and where each ends.
-use crate::reading::ADD_LINE;
-use crate::reading::ADD_PIECE;
-use crate::reading::BEGIN;
-use crate::reading::MOST_POSITIONS;
-use crate::reading::Positions;
+use scenario::ADD_LINE;
+use scenario::ADD_PIECE;
+use scenario::BEGIN;
+use scenario::MOST_POSITIONS;
 use text::part;
 ghost use Prim.Native.Nat.{_≤_};
 
@@ -13,6 +12,9 @@ const KEPT_SERVICES: usize = 33;
 const KEPT_NAME: usize = 33;
 
 const KEPT_TEXT: usize = 4097;
+
+// The positions that a load is given, and from MOST_POSITIONS on those of the services given so far.
+pub(crate) type Positions = [usize; 136];
 
 // Names and texts, as far as they are kept.
 pub(crate) type Buffer = [u8; 136290];

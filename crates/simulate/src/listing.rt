@@ -1,27 +1,38 @@
 // The loaded services, their settings, the tokens and the state, as lines.
+use crate::filling::number_at;
 use crate::filling::put_line;
 use crate::filling::put_numbered;
-use crate::names::kind_number;
+use crate::filling::put_text;
+use crate::loading::Counts;
 use crate::output::Output;
 use crate::output::put;
 use crate::output::put_bytes;
 use crate::output::put_hex_bytes;
-use crate::records::record_line;
-use crate::records::settings_line;
 use crate::texts::CLOCK_LINE;
+use crate::texts::COMMANDS;
 use crate::texts::NO_TOKENS;
+use crate::texts::RECORD;
+use crate::texts::RECORD_TIMED;
 use crate::texts::SERVICE_HEAD;
 use crate::texts::SERVICE_TAIL;
+use crate::texts::SETTINGS;
 use crate::texts::TOKENS;
+use encoding::EACH;
+use encoding::Numbers;
 use lent::name_at;
-use service::Kind;
 use service::MAX_SERVICES;
-use service::Record;
-use service::Settings;
-use service::State;
-use service::Table;
-use storing::Commands;
 use text::part;
+
+// The numbers from a place on, so many of them.
+fn range(numbers: &[u64], from: usize, count: usize) -> &[u64] {
+    if from <= numbers.len() {
+        if count <= numbers.len() - from {
+            let end = from + count;
+            return &numbers[from..end];
+        }
+    }
+    &numbers[..0]
+}
 
 // A service with its name and its type.
 fn put_service(
@@ -30,11 +41,11 @@ fn put_service(
     texts: &[u8],
     s: usize,
     name: &[u8],
-    kind: Kind,
+    kind: u64,
 ) -> usize {
     let opened = put_numbered(out, at, texts, SERVICE_HEAD, s as u64);
     let named = put_bytes(out, opened, name);
-    let typed = put_numbered(out, named, texts, SERVICE_TAIL, kind_number(kind));
+    let typed = put_numbered(out, named, texts, SERVICE_TAIL, kind);
     put(out, typed, b'\n')
 }
 
@@ -43,34 +54,36 @@ pub(crate) fn put_services(
     out: &mut Output,
     at: usize,
     texts: &[u8],
-    t: Table,
+    table: &Numbers,
+    count: usize,
     lent: &[u8],
     positions: &[usize],
 ) -> usize {
     let mut to = at;
     let mut s: usize = 0;
     while s < MAX_SERVICES {
-        if t.count <= s {
+        if count <= s {
             break;
         }
-        let v = t.services[s];
-        let kind = v.kind;
+        let kind = number_at(table, 1 + EACH * s);
         to = put_service(out, to, texts, s, name_at(lent, positions, s), kind);
         s += 1;
     }
     to
 }
 
+// The settings of a service, with how many tokens its commands have.
 fn put_settings(
     out: &mut Output,
     at: usize,
     texts: &[u8],
     s: usize,
-    v: Settings,
-    c: Commands,
+    settings: &[u64],
+    counts: &[u64],
 ) -> usize {
-    let line = settings_line(s, v, c);
-    put_line(out, at, texts, &line)
+    let opened = put_numbered(out, at, texts, SERVICE_HEAD, s as u64);
+    let told = put_text(out, opened, texts, SETTINGS, settings);
+    put_line(out, told, texts, COMMANDS, counts)
 }
 
 // The settings of so many services.
@@ -78,8 +91,8 @@ fn put_all_settings(
     out: &mut Output,
     at: usize,
     texts: &[u8],
-    t: Table,
-    commands: [Commands; MAX_SERVICES],
+    table: &Numbers,
+    counts: &Counts,
     count: usize,
 ) -> usize {
     let mut to = at;
@@ -88,7 +101,8 @@ fn put_all_settings(
         if count <= s {
             break;
         }
-        to = put_settings(out, to, texts, s, t.services[s], commands[s]);
+        let settings = range(table, 1 + EACH * s, EACH);
+        to = put_settings(out, to, texts, s, settings, range(counts, 2 * s, 2));
         s += 1;
     }
     to
@@ -105,7 +119,7 @@ fn put_tokens(out: &mut Output, at: usize, texts: &[u8], tokens: &[u8]) -> usize
 }
 
 // The place after so many tokens, each of which ends in a zero byte.
-fn skip(tokens: &[u8], at: usize, count: usize) -> usize {
+fn skip(tokens: &[u8], at: usize, count: u64) -> usize {
     let mut left = count;
     let mut to = at;
     while to < tokens.len() {
@@ -122,20 +136,13 @@ fn skip(tokens: &[u8], at: usize, count: usize) -> usize {
     to
 }
 
-// The place after the tokens of a service.
-fn skip_commands(tokens: &[u8], at: usize, c: Commands) -> usize {
-    let start = c.start;
-    let stop = c.stop;
-    skip(tokens, skip(tokens, at, start.count), stop.count)
-}
-
 // How many bytes of the token buffer the commands take.
-fn token_bytes(commands: [Commands; MAX_SERVICES], tokens: &[u8]) -> usize {
+fn token_bytes(counts: &Counts, tokens: &[u8]) -> usize {
     let mut at: usize = 0;
-    let mut s: usize = 0;
-    while s < MAX_SERVICES {
-        at = skip_commands(tokens, at, commands[s]);
-        s += 1;
+    let mut i: usize = 0;
+    while i < counts.len() {
+        at = skip(tokens, at, counts[i]);
+        i += 1;
     }
     at
 }
@@ -145,34 +152,43 @@ pub(crate) fn put_table(
     out: &mut Output,
     at: usize,
     texts: &[u8],
-    t: Table,
-    commands: [Commands; MAX_SERVICES],
+    table: &Numbers,
+    counts: &Counts,
     count: usize,
     tokens: &[u8],
 ) -> usize {
-    let to = put_all_settings(out, at, texts, t, commands, count);
-    put_tokens(
+    let to = put_all_settings(out, at, texts, table, counts, count);
+    put_tokens(out, to, texts, part(tokens, 0, token_bytes(counts, tokens)))
+}
+
+// The text of a record: with a deadline's time, or without one.
+fn record_text(timed: u64) -> usize {
+    if timed == 0 {
+        return RECORD;
+    }
+    RECORD_TIMED
+}
+
+fn put_record(out: &mut Output, at: usize, texts: &[u8], s: usize, record: &[u64]) -> usize {
+    let opened = put_numbered(out, at, texts, SERVICE_HEAD, s as u64);
+    put_line(
         out,
-        to,
+        opened,
         texts,
-        part(tokens, 0, token_bytes(commands, tokens)),
+        record_text(number_at(record, 5)),
+        record,
     )
 }
 
-fn put_record(out: &mut Output, at: usize, texts: &[u8], s: usize, r: Record) -> usize {
-    let line = record_line(s, r);
-    put_line(out, at, texts, &line)
-}
-
 // The records of so many services.
-fn put_records(out: &mut Output, at: usize, texts: &[u8], x: State, count: usize) -> usize {
+fn put_records(out: &mut Output, at: usize, texts: &[u8], state: &Numbers, count: u64) -> usize {
     let mut to = at;
     let mut s: usize = 0;
     while s < MAX_SERVICES {
-        if count <= s {
+        if count <= s as u64 {
             break;
         }
-        to = put_record(out, to, texts, s, x.records[s]);
+        to = put_record(out, to, texts, s, range(state, 1 + EACH * s, EACH));
         s += 1;
     }
     to
@@ -183,10 +199,10 @@ pub(crate) fn put_state(
     out: &mut Output,
     at: usize,
     texts: &[u8],
-    x: State,
-    count: usize,
+    state: &Numbers,
+    count: u64,
 ) -> usize {
-    let told = put_numbered(out, at, texts, CLOCK_LINE, x.clock);
+    let told = put_numbered(out, at, texts, CLOCK_LINE, number_at(state, 0));
     let to = put(out, told, b'\n');
-    put_records(out, to, texts, x, count)
+    put_records(out, to, texts, state, count)
 }

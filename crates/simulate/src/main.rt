@@ -5,39 +5,36 @@ mod filling;
 mod given;
 mod listing;
 mod loading;
-mod names;
 mod output;
-mod reading;
-mod records;
 mod setting;
 mod texts;
-mod words;
 mod writing;
 
 use answers::ReplyLine;
+use answers::keep_reply;
+use answers::line_reply;
 use calls::Places;
 use calls::call;
+use encoding::Numbers;
 use given::Buffer;
 use given::Given;
+use given::Positions;
 use given::given_after;
 use libc::STDIN_FILENO;
+use loading::Counts;
+use loading::Loading;
 use loading::TokenBuffer;
 use loading::loaded_after;
-use loading::nothing_loaded;
 use output::Output;
 use output::write_rest;
-use reading::Positions;
-use reading::read_line;
-use service::State;
-use service::Table;
-use setting::state_after;
-use setting::table_after;
+use scenario::Command;
+use scenario::read_line;
+use setting::set;
 use text::line_end;
 use text::part;
 use texts::TEXTS;
 use writing::put_answer;
 use writing::put_lists;
-use writing::reply_line;
 ghost use Prim.Native.Nat.{_<_, _≤_};
 ghost use lib.ListN.{length};
 
@@ -64,6 +61,47 @@ fn one_more(n: u64) -> u64 {
     n
 }
 
+// A line without the newline that ends it.
+fn bare(line: &[u8]) -> &[u8] {
+    part(line, 0, line_end(line, 0))
+}
+
+// Does what a line of this number asks for, keeps its answer, and answers what is loaded then.
+fn obey(
+    command: Command,
+    line: &[u8],
+    number: u64,
+    given: Given,
+    loaded: Loading,
+    buffer: &Buffer,
+    positions: &mut Positions,
+    tokens: &mut TokenBuffer,
+    table: &mut Numbers,
+    state: &mut Numbers,
+    counts: &mut Counts,
+    reply: &mut ReplyLine,
+    services: &mut Places,
+    actions: &mut Places,
+) -> Loading {
+    keep_reply(reply, line_reply(command.verb, number));
+    let after = loaded_after(
+        loaded,
+        command,
+        line,
+        given,
+        buffer,
+        positions,
+        tokens,
+        table,
+        state,
+        counts,
+        reply,
+    );
+    set(table, state, command);
+    call(table, state, command, reply, services, actions);
+    after
+}
+
 // Obeys each line of the scenario in turn, and answers the place in the output.
 fn obey_all(
     texts: &[u8],
@@ -71,6 +109,9 @@ fn obey_all(
     buffer: &mut Buffer,
     positions: &mut Positions,
     tokens: &mut TokenBuffer,
+    table: &mut Numbers,
+    state: &mut Numbers,
+    counts: &mut Counts,
     reply: &mut ReplyLine,
     services: &mut Places,
     actions: &mut Places,
@@ -81,9 +122,10 @@ fn obey_all(
         bytes: 0,
         text: 0,
     };
-    let mut loaded = nothing_loaded();
-    let mut table = Table::empty();
-    let mut state = State::fresh();
+    let mut loaded = Loading {
+        good: false,
+        count: 0,
+    };
     let mut to: usize = 0;
     let mut lines: u64 = 0;
     let mut at: usize = 0;
@@ -91,11 +133,24 @@ fn obey_all(
         lines = one_more(lines);
         let next = line_after(scenario, at);
         let line = part(scenario, at, next);
-        let command = read_line(texts, line, positions, given, loaded);
+        let command = read_line(bare(line), 0 < given.begun, loaded.good);
         given = given_after(given, command.verb, line, buffer, positions);
-        loaded = loaded_after(loaded, command, given, buffer, positions, tokens);
-        table = table_after(table, command, loaded);
-        state = state_after(state, command);
+        loaded = obey(
+            command,
+            bare(line),
+            lines,
+            given,
+            loaded,
+            buffer,
+            positions,
+            tokens,
+            table,
+            state,
+            counts,
+            reply,
+            services,
+            actions,
+        );
         to = put_lists(
             out,
             to,
@@ -103,14 +158,13 @@ fn obey_all(
             command,
             given,
             loaded,
-            table,
-            state,
             buffer,
             positions,
             tokens,
+            table,
+            state,
+            counts,
         );
-        reply_line(reply, command.verb, loaded, lines);
-        state = call(table, state, command, reply, services, actions);
         to = put_answer(out, to, texts, reply, services, actions);
         at = next;
     }
@@ -135,19 +189,26 @@ fn read_scenario(input: &mut [u8]) -> usize {
     0
 }
 
-fn obey(texts: &[u8], scenario: &[u8], out: &mut Output) -> usize {
+// The answers to a scenario, written out as far as the buffer was filled; answers the place in it.
+fn play(scenario: &[u8], out: &mut Output) -> usize {
     let mut buffer = [0u8; 136290];
     let mut positions = [0usize; 136];
     let mut tokens = io::large_buffer();
+    let mut table = [0u64; 385];
+    let mut state = [0u64; 385];
+    let mut counts = [0u64; 64];
     let mut reply = [0u64; 4];
     let mut services = [0u64; 256];
     let mut actions = [0u64; 256];
     obey_all(
-        texts,
+        &TEXTS,
         scenario,
         &mut buffer,
         &mut positions,
         &mut tokens,
+        &mut table,
+        &mut state,
+        &mut counts,
         &mut reply,
         &mut services,
         &mut actions,
@@ -155,15 +216,9 @@ fn obey(texts: &[u8], scenario: &[u8], out: &mut Output) -> usize {
     )
 }
 
-// The same with the texts of the format.
-fn obey_with_texts(scenario: &[u8], out: &mut Output) -> usize {
-    let texts = TEXTS;
-    obey(&texts, scenario, out)
-}
-
 fn run(input: &mut [u8], out: &mut Output) {
     let n = read_scenario(input);
-    let at = obey_with_texts(part(input, 0, n), out);
+    let at = play(part(input, 0, n), out);
     write_rest(out, at);
 }
 

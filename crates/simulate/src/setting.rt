@@ -1,64 +1,67 @@
-// The table and the state after a load, and after a line that sets a value in them.
-use crate::loading::is_load;
-use crate::reading::Command;
-use crate::records::with_field;
-use crate::records::with_set;
-use crate::texts::SET_CLOCK;
-use crate::texts::SET_COUNT;
-use crate::texts::SET_RECORD;
-use crate::texts::SET_RECORD_LAST;
-use crate::texts::SET_TABLE;
-use crate::texts::SET_TABLE_LAST;
-use loader::Loaded;
-use service::State;
-use service::Table;
+// The lines that set a number of the state or of the table.
+use encoding::EACH;
+use encoding::Numbers;
+use scenario::Command;
+use scenario::SET_CLOCK;
+use scenario::SET_COUNT;
+use scenario::SET_RECORD;
+use scenario::SET_RECORD_LAST;
+use scenario::SET_TABLE;
+use scenario::SET_TABLE_LAST;
+use service::MAX_SERVICES;
 
-fn with_count(t: Table, count: usize) -> Table {
-    let mut u = t;
-    u.count = count;
-    u
+// The places of a deadline's two numbers among those of a record: whether there is one, and its time.
+const TIMED: usize = 5;
+
+const TIME: usize = 6;
+
+// The place of the first number of a service that can be set, and of the first after the signal, which cannot.
+const FIRST_SET: usize = 2;
+
+const SIGNAL: usize = 7;
+
+// Sets a number of a service by its place among them.
+fn set_number(numbers: &mut Numbers, s: u64, place: usize, n: u64) {
+    if s < MAX_SERVICES as u64 {
+        if place < EACH {
+            numbers[1 + EACH * s as usize + place] = n;
+        }
+    }
 }
 
-// The table after a line that may set a number in it.
-fn set_table(t: Table, command: Command) -> Table {
+// Sets a number of a record. To set a deadline's time is to have one.
+fn set_record(state: &mut Numbers, s: u64, place: usize, n: u64) {
+    if place == TIME {
+        set_number(state, s, TIMED, 1);
+    }
+    set_number(state, s, place, n);
+}
+
+// The place of a number of a table among a service's, by that of its line among the lines that set one.
+fn setting_place(line: usize) -> usize {
+    if line < SIGNAL - FIRST_SET {
+        return line + FIRST_SET;
+    }
+    if line < EACH {
+        return line + FIRST_SET + 1;
+    }
+    EACH
+}
+
+fn set_first(numbers: &mut Numbers, n: u64) {
+    numbers[0] = n;
+}
+
+// Sets what a line sets. The lines that set a record stand in the order of its numbers.
+pub(crate) fn set(table: &mut Numbers, state: &mut Numbers, command: Command) {
     let verb = command.verb;
-    let s = command.first as usize;
+    let s = command.first;
     let n = command.last;
     match verb {
-        SET_COUNT => with_count(t, n as usize),
-        SET_TABLE..=SET_TABLE_LAST => with_set(t, s, verb - SET_TABLE, n),
-        _ => t,
+        SET_CLOCK => set_first(state, n),
+        SET_COUNT => set_first(table, n),
+        SET_RECORD..=SET_RECORD_LAST => set_record(state, s, verb - SET_RECORD, n),
+        SET_TABLE..=SET_TABLE_LAST => set_number(table, s, setting_place(verb - SET_TABLE), n),
+        _ => {}
     }
-}
-
-pub(crate) fn table_after(t: Table, command: Command, loaded: Loaded) -> Table {
-    if is_load(command.verb) {
-        return loaded.table;
-    }
-    set_table(t, command)
-}
-
-fn with_clock(x: State, clock: u64) -> State {
-    let mut y = x;
-    y.clock = clock;
-    y
-}
-
-// The state after a line that may set a value in it. A record's phase has place 2 in the record's line.
-fn set_state(x: State, command: Command) -> State {
-    let verb = command.verb;
-    let s = command.first as usize;
-    let n = command.last;
-    match verb {
-        SET_CLOCK => with_clock(x, n),
-        SET_RECORD..=SET_RECORD_LAST => with_field(x, s, verb - SET_RECORD + 2, n),
-        _ => x,
-    }
-}
-
-pub(crate) fn state_after(x: State, command: Command) -> State {
-    if is_load(command.verb) {
-        return engine::fresh();
-    }
-    set_state(x, command)
 }

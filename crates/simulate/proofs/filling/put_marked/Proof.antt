@@ -1,12 +1,12 @@
 -- `put_marked` is safe and ends: what is left of the text falls.
 use borrow.Author.Needs.{needs}
-use Prim.Native.Nat.{_+_, _-_, _≤_}
+use Prim.Native.Nat.{_-_, _≤_}
 use lib.ListN.{length}
 use Rattle.simulate.proofs.filling.put_marked.Statement.{statement}
 use Rattle.simulate.proofs.filling.put_marked.Tie as tie
 
 abbrev Inv-loop : tie.InvT-loop
-Inv-loop out₀ at texts text numbers to₀ k₀ i₀ out to k i = (k ≤ i + 1) × (i ≤ length text)
+Inv-loop out₀ at texts text numbers to₀ k₀ i₀ out to k i = (k ≤ i) × (i ≤ length text)
 
 abbrev μ-loop : tie.MeasureT-loop
 μ-loop out₀ at texts text numbers to₀ k₀ i₀ out to k i = length text - i

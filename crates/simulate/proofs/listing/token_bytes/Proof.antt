@@ -1,14 +1,14 @@
--- `token_bytes` is safe and ends: it counts up to the most services.
+-- `token_bytes` is safe and ends: it counts up to the most counts.
 use borrow.Author.Needs.{needs}
 use Prim.Native.Nat.{_-_, _≤_}
 use Rattle.simulate.proofs.listing.token_bytes.Statement.{statement}
 use Rattle.simulate.proofs.listing.token_bytes.Tie as tie
 
 abbrev Inv-loop : tie.InvT-loop
-Inv-loop tokens commands at₀ s₀ at s = s ≤ 32
+Inv-loop counts tokens at₀ i₀ at i = i ≤ 64
 
 abbrev μ-loop : tie.MeasureT-loop
-μ-loop tokens commands at₀ s₀ at s = 32 - s
+μ-loop counts tokens at₀ i₀ at i = 64 - i
 
 pub token-bytes-spec : {M : Type 1} → statement M
 token-bytes-spec =

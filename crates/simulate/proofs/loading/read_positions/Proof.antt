@@ -1,14 +1,14 @@
--- `read_positions` is safe and ends: it counts up to the number of words.
+-- `read_positions` is safe and ends: it counts up to the most positions.
 use borrow.Author.Needs.{needs}
 use Prim.Native.Nat.{_-_, _≤_}
-use Rattle.simulate.proofs.reading.read_positions.Statement.{statement}
-use Rattle.simulate.proofs.reading.read_positions.Tie as tie
+use Rattle.simulate.proofs.loading.read_positions.Statement.{statement}
+use Rattle.simulate.proofs.loading.read_positions.Tie as tie
 
 abbrev Inv-loop : tie.InvT-loop
-Inv-loop line count positions₀ k₀ positions k = 2 ≤ k
+Inv-loop line count positions₀ i₀ positions i = i ≤ 70
 
 abbrev μ-loop : tie.MeasureT-loop
-μ-loop line count positions₀ k₀ positions k = count - k
+μ-loop line count positions₀ i₀ positions i = 70 - i
 
 pub read-positions-spec : {M : Type 1} → statement M
 read-positions-spec =
@@ -17,11 +17,11 @@ read-positions-spec =
     Inv-loop
     μ-loop
     (λ c. search needs)
+    (λ c. search needs)
+    (λ c κs. search needs)
     (λ c κs. search needs)
     (λ c κs. search needs)
     (λ c. search needs)
-    (λ c. search needs)
-    (λ c κs. search needs)
     (λ c. search needs)
     (λ c. search needs)
     (λ c. search needs)
