@@ -28,11 +28,13 @@ module _ (f w : List ℕ) {b : ℕ} {r : Read} (first : b ≡ getD f 0 0) where
   value-choice t q = rw (← first, t) q
 
 module _ (form l : List ℕ) where
-  pub value-there : (k : ℕ) {f w : List ℕ} {r : Read} → f ≡ wordOf form k → w ≡ wordOf l k → r ≡ valueOf f w → r ≡ valueAt form l k
+  pub value-there : (k : ℕ) {f w : List ℕ} {r : Read} → f ≡ wordOf form k → w ≡ wordOf l k → r ≡ valueOf f w
+      → r ≡ valueAt form l k
   value-there k p q h = rw (← p, ← q) h
 
   -- as many words as the form, or not
-  pub fits-as-long : {n m : ℕ} {r : Bool} → n ≡ wordCount form → m ≡ wordCount l → eqb m n ≡ true → r ≡ beginsAs form l n → r ≡ fitsForm form l
+  pub fits-as-long : {n m : ℕ} {r : Bool} → n ≡ wordCount form → m ≡ wordCount l → eqb m n ≡ true
+      → r ≡ beginsAs form l n → r ≡ fitsForm form l
   unfolding fitsForm
   fits-as-long p q t h = rw (← p, ← q, t) h
 

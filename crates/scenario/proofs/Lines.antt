@@ -3,7 +3,7 @@ use Prim.Native.Nat.{ℕ, _+_, _-_, _≤_, _<_}
 use mathlib.Core.Path.{_≡_}
 use mathlib.Core.Bool.{Bool, true, false, _&&_, _||_}
 use mathlib.Core.List.{List, []}
-use lib.Dec.{eqb, ltb}
+use lib.Dec.{eqb, leb, ltb}
 use lib.ListN.{length, getD}
 use borrow.Author.Tests.{le-leb, lt-leb}
 use Rattle.base.specs.Folds.{pick}
@@ -24,7 +24,8 @@ module _ (form l : List ℕ) {n : ℕ} (count : n ≡ wordCount l) where
   load-many h m = rw (← count, le-leb 3 n h, lt-leb n (mostPositions + 2) m)
 
   pub load-read : {a : Read} {b q t : Bool} → 3 ≤ n → n ≤ mostPositions + 2 → a ≡ valueAt form l 1 → b ≡ beginsAs form l 2
-      → q ≡ areNumbers l (n - 2) → b && q ≡ t → pick t (record { verb = loadAt; first = a .value; last = n - 2 }) bad ≡ readLoad form l
+      → q ≡ areNumbers l (n - 2) → b && q ≡ t
+      → pick t (record { verb = loadAt; first = a .value; last = n - 2 }) bad ≡ readLoad form l
   unfolding readLoad
   load-read h m x y z t = rw (← count, le-leb 3 n h, le-leb n (mostPositions + 2) m, ← x, ← y, ← z, t)
 
@@ -39,7 +40,8 @@ module _ (forms : List (List ℕ)) (l : List ℕ) {verb : ℕ} {f : List ℕ} {r
   parted-formed t p h = rw (← found, t, ← p) h
 
 -- what opens a line, by its first byte, its first word and the number of its words
-pub opening-found : (l : List ℕ) {b n : ℕ} {w : List ℕ} {s : Bool} → b ≡ getD l 0 0 → w ≡ wordOf l 0 → s ≡ same w (bytes "service") → n ≡ wordCount l
+pub opening-found : (l : List ℕ) {b n : ℕ} {w : List ℕ} {s : Bool} → b ≡ getD l 0 0 → w ≡ wordOf l 0
+    → s ≡ same w (bytes "service") → n ≡ wordCount l
     → openingOf l ≡ pick (eqb (length l) 0 || eqb b 37) nothing
     (pick (s && ltb 1 n) begin (pick (eqb b 124) addLine (pick (eqb b 33) addPiece badVerb)))
 unfolding openingOf
@@ -54,6 +56,12 @@ module _ (forms : List (List ℕ)) (l : List ℕ) {verb : ℕ} (opens : verb ≡
   pub any-plain : eqb verb badVerb ≡ false → plain verb ≡ readAny forms l
   unfolding readAny
   any-plain t = rw (← opens, t)
+
+-- what a verb needs: a service begun, nothing, or a set loaded
+pub needed-told : (v : ℕ) (begun loaded : Bool) {a f : Bool} → eqb v addLine || eqb v addPiece ≡ a → leb load v && leb v begin ≡ f
+    → pick a begun (pick f true loaded) ≡ hasNeeded v begun loaded
+unfolding hasNeeded
+needed-told v begun loaded p q = rw (p, q)
 
 -- a line that comes after what it needs, or before
 pub after-read : (forms : List (List ℕ)) (l : List ℕ) (begun loaded : Bool) {r : Command} {g t : Bool} → r ≡ readAny forms l

@@ -21,10 +21,16 @@ loop-holds c = passed-none
 
 returns : tie.Need-returns Inv-loop μ-loop
 unfolding formOf
-returns c = passed-hit (c .before .before .before .before .loop .inv) (c .before .before .before .loop-test .taken) (c .before .fits-form .ensures ∙ ap (λ (f : List ℕ). fitsForm f (now (c .before .before .before .before .before .before .before .args .line))) (c .before .before .piece .ensures)) (c .if1 .taken)
+returns c =
+    passed-hit (c .before .before .before .before .loop .inv) (c .before .before .before .loop-test .taken)
+    (c .before .fits-form .ensures ∙ ap (λ (f : List ℕ). fitsForm f (now (c .before .before .before .before .before .before .before .args .line))) (c .before .before .piece .ensures))
+    (c .if1 .taken)
 
 loop-again : tie.Need-loop-again Inv-loop μ-loop
-loop-again c = passed-more (c .before .before .before .before .loop .inv) (c .before .before .before .loop-test .taken) (c .before .fits-form .ensures ∙ ap (λ (f : List ℕ). fitsForm f (now (c .before .before .before .before .before .before .before .args .line))) (c .before .before .piece .ensures)) (c .if1 .left)
+loop-again c =
+    passed-more (c .before .before .before .before .loop .inv) (c .before .before .before .loop-test .taken)
+    (c .before .fits-form .ensures ∙ ap (λ (f : List ℕ). fitsForm f (now (c .before .before .before .before .before .before .before .args .line))) (c .before .before .piece .ensures))
+    (c .if1 .left)
 
 returns-2 : tie.Need-returns-2 Inv-loop μ-loop
 unfolding formOf
