@@ -1,15 +1,16 @@
 -- The laws of a line and a form, one for each answer of a function; the premises stand as the callees' contracts give them.
-use Prim.Native.Nat.{ℕ, _-_}
-use mathlib.Core.Path.{_≡_}
+use Prim.Native.Nat.{ℕ, _+_, _-_, _≤_, _<_}
+use mathlib.Core.Path.{_≡_, ap, _∙_}
 use mathlib.Core.Bool.{Bool, true, false}
 use mathlib.Core.List.{List}
 use lib.Dec.{eqb}
 use lib.ListN.{getD, drop}
 use Rattle.base.specs.Folds.{pick}
+use Rattle.base.proofs.Loops.{Passed, passed-more, passed-hit, passed-all}
 use Rattle.words.specs.declared.Read.{Read}
 use Rattle.words.specs.Numbers.{numberOf, numberTo}
-use Rattle.words.specs.Pieces.{placeOf}
-use Rattle.scenario.specs.Forms.{wordOf, wordCount, mostOf, valueOf, valueAt, beginsAs, fitsForm, readForm}
+use Rattle.words.specs.Pieces.{piecesOf, pieceOf, placeOf}
+use Rattle.scenario.specs.Forms.{formCount, wordOf, wordCount, mostOf, valueOf, valueAt, beginsAs, fitsForm, formOf, readForm}
 
 -- the word of a form is # and what follows it
 pub most-read : (f : List ℕ) {t : List ℕ} {r : Read} {b : Bool} → t ≡ drop 1 f → r ≡ numberOf t → r .good ≡ b
@@ -28,11 +29,13 @@ module _ (f w : List ℕ) {b : ℕ} {r : Read} (first : b ≡ getD f 0 0) where
   value-choice t q = rw (← first, t) q
 
 module _ (form l : List ℕ) where
-  pub value-there : (k : ℕ) {f w : List ℕ} {r : Read} → f ≡ wordOf form k → w ≡ wordOf l k → r ≡ valueOf f w → r ≡ valueAt form l k
+  pub value-there : (k : ℕ) {f w : List ℕ} {r : Read} → f ≡ wordOf form k → w ≡ wordOf l k → r ≡ valueOf f w
+      → r ≡ valueAt form l k
   value-there k p q h = rw (← p, ← q) h
 
   -- as many words as the form, or not
-  pub fits-as-long : {n m : ℕ} {r : Bool} → n ≡ wordCount form → m ≡ wordCount l → eqb m n ≡ true → r ≡ beginsAs form l n → r ≡ fitsForm form l
+  pub fits-as-long : {n m : ℕ} {r : Bool} → n ≡ wordCount form → m ≡ wordCount l → eqb m n ≡ true
+      → r ≡ beginsAs form l n → r ≡ fitsForm form l
   unfolding fitsForm
   fits-as-long p q t h = rw (← p, ← q, t) h
 
@@ -44,3 +47,21 @@ module _ (form l : List ℕ) where
       → record { verb = verb; first = a .value; last = z .value } ≡ readForm form l verb
   unfolding readForm
   form-read verb p q h = rw (← p, ← q, ← h)
+
+-- a search for the form of a line has passed i of those of a text
+abbrev pub Fitting : List ℕ → List ℕ → ℕ → Type 0
+Fitting text l i = Passed (λ k. fitsForm (pieceOf text 10 k) l) formCount i
+
+module _ (text l : List ℕ) {i : ℕ} (h : Fitting text l i) where
+  -- f is the form at i, and q what the code computed of form and line
+  module _ {f : List ℕ} {q : Bool} (b : i < formCount) (e : f ≡ pieceOf text 10 i) (g : q ≡ fitsForm f l) where
+    pub fitting-more : q ≡ false → Fitting text l (i + 1)
+    fitting-more t = passed-more h b (g ∙ ap (λ (x : List ℕ). fitsForm x l) e) t
+
+    pub fitting-here : q ≡ true → i ≡ formOf (piecesOf 10 text) l
+    unfolding formOf
+    fitting-here t = passed-hit h b (g ∙ ap (λ (x : List ℕ). fitsForm x l) e) t
+
+  pub fitting-none : formCount ≤ i → i ≡ formOf (piecesOf 10 text) l
+  unfolding formOf
+  fitting-none b = passed-all h b

@@ -1,9 +1,9 @@
 -- The laws of a line, one for each answer of a function; the premises stand as the callees' contracts give them.
 use Prim.Native.Nat.{ℕ, _+_, _-_, _≤_, _<_}
-use mathlib.Core.Path.{_≡_}
+use mathlib.Core.Path.{_≡_, refl}
 use mathlib.Core.Bool.{Bool, true, false, _&&_, _||_}
 use mathlib.Core.List.{List, []}
-use lib.Dec.{eqb, ltb}
+use lib.Dec.{eqb, leb, ltb}
 use lib.ListN.{length, getD}
 use borrow.Author.Tests.{le-leb, lt-leb}
 use Rattle.base.specs.Folds.{pick}
@@ -24,7 +24,8 @@ module _ (form l : List ℕ) {n : ℕ} (count : n ≡ wordCount l) where
   load-many h m = rw (← count, le-leb 3 n h, lt-leb n (mostPositions + 2) m)
 
   pub load-read : {a : Read} {b q t : Bool} → 3 ≤ n → n ≤ mostPositions + 2 → a ≡ valueAt form l 1 → b ≡ beginsAs form l 2
-      → q ≡ areNumbers l (n - 2) → b && q ≡ t → pick t (record { verb = loadAt; first = a .value; last = n - 2 }) bad ≡ readLoad form l
+      → q ≡ areNumbers l (n - 2) → b && q ≡ t
+      → pick t (record { verb = loadAt; first = a .value; last = n - 2 }) bad ≡ readLoad form l
   unfolding readLoad
   load-read h m x y z t = rw (← count, le-leb 3 n h, le-leb n (mostPositions + 2) m, ← x, ← y, ← z, t)
 
@@ -39,11 +40,29 @@ module _ (forms : List (List ℕ)) (l : List ℕ) {verb : ℕ} {f : List ℕ} {r
   parted-formed t p h = rw (← found, t, ← p) h
 
 -- what opens a line, by its first byte, its first word and the number of its words
-pub opening-found : (l : List ℕ) {b n : ℕ} {w : List ℕ} {s : Bool} → b ≡ getD l 0 0 → w ≡ wordOf l 0 → s ≡ same w (bytes "service") → n ≡ wordCount l
-    → openingOf l ≡ pick (eqb (length l) 0 || eqb b 37) nothing
-    (pick (s && ltb 1 n) begin (pick (eqb b 124) addLine (pick (eqb b 33) addPiece badVerb)))
-unfolding openingOf
-opening-found l p q h m = rw (p, h, q, m)
+module _ (l : List ℕ) {b n : ℕ} {w : List ℕ} {s : Bool} (byte : b ≡ getD l 0 0) (word : w ≡ wordOf l 0)
+    (named : s ≡ same w (bytes "service")) (count : n ≡ wordCount l) where
+  opening-found : {x y z u : Bool} → eqb (length l) 0 || eqb b 37 ≡ x → s && ltb 1 n ≡ y → eqb b 124 ≡ z → eqb b 33 ≡ u
+      → pick x nothing (pick y begin (pick z addLine (pick u addPiece badVerb))) ≡ openingOf l
+  unfolding openingOf
+  opening-found x y z u = rw (← byte, ← word, ← named, ← count, x, y, z, u)
+
+  pub opening-nothing : eqb (length l) 0 || eqb b 37 ≡ true → nothing ≡ openingOf l
+  opening-nothing x = opening-found x refl refl refl
+
+  module _ (x : eqb (length l) 0 || eqb b 37 ≡ false) where
+    pub opening-begin : s && ltb 1 n ≡ true → begin ≡ openingOf l
+    opening-begin y = opening-found x y refl refl
+
+    module _ (y : s && ltb 1 n ≡ false) where
+      pub opening-line : eqb b 124 ≡ true → addLine ≡ openingOf l
+      opening-line z = opening-found x y z refl
+
+      pub opening-piece : eqb b 124 ≡ false → eqb b 33 ≡ true → addPiece ≡ openingOf l
+      opening-piece z u = opening-found x y z u
+
+      pub opening-none : eqb b 124 ≡ false → eqb b 33 ≡ false → badVerb ≡ openingOf l
+      opening-none z u = opening-found x y z u
 
 -- a line that its opening does not tell, or does
 module _ (forms : List (List ℕ)) (l : List ℕ) {verb : ℕ} (opens : verb ≡ openingOf l) where
@@ -54,6 +73,12 @@ module _ (forms : List (List ℕ)) (l : List ℕ) {verb : ℕ} (opens : verb ≡
   pub any-plain : eqb verb badVerb ≡ false → plain verb ≡ readAny forms l
   unfolding readAny
   any-plain t = rw (← opens, t)
+
+-- what a verb needs: a service begun, nothing, or a set loaded
+pub needed-told : (v : ℕ) (begun loaded : Bool) {a f : Bool} → eqb v addLine || eqb v addPiece ≡ a → leb load v && leb v begin ≡ f
+    → pick a begun (pick f true loaded) ≡ hasNeeded v begun loaded
+unfolding hasNeeded
+needed-told v begun loaded p q = rw (p, q)
 
 -- a line that comes after what it needs, or before
 pub after-read : (forms : List (List ℕ)) (l : List ℕ) (begun loaded : Bool) {r : Command} {g t : Bool} → r ≡ readAny forms l

@@ -1,16 +1,26 @@
--- Worked examples of lines: one table, one statement.
+-- The forms are as many as said, and that of a load stands where it is said; worked examples of lines, in one table with one
+-- statement.
 use Prim.Native.Nat.{ℕ}
 use Prim.Native.String.{String}
 use mathlib.Core.Bool.{Bool, true, false}
 use mathlib.Core.Path.{_≡_, refl}
 use mathlib.Core.List.{List, [], _∷_, map}
+use lib.ListN.{length, getD}
 use Rattle.base.specs.Folds.{every, first}
 use Rattle.text.specs.Strings.{bytes, same}
 use Rattle.words.specs.Numbers.{withDigit, numberFrom, numberOf, numberTo}
 use Rattle.words.specs.Pieces.{piecesOf, placeOf}
 use Rattle.scenario.specs.declared.Command.{Command}
-use Rattle.scenario.specs.Forms.{forms, mostOf, valueOf, beginsAs, fitsForm, formOf, readForm}
-use Rattle.scenario.specs.Lines.{loadAt, nothing, begin, addLine, addPiece, plain, bad, areNumbers, readLoad, readParted, openingOf, readAny, hasNeeded, readAfter, commandOf}
+use Rattle.scenario.specs.Forms.{forms, formCount, mostOf, valueOf, beginsAs, fitsForm, formOf, readForm}
+use Rattle.scenario.specs.Lines.{load, loadAt, nothing, begin, addLine, addPiece, plain, bad, areNumbers, readLoad, readParted, openingOf, readAny, hasNeeded, readAfter, commandOf}
+
+pub forms-counted : length forms ≡ formCount
+unfolding bytes forms
+forms-counted = refl
+
+pub load-stands : getD forms load [] ≡ bytes "load #65536"
+unfolding bytes forms
+load-stands = refl
 
 -- a line, whether a service was begun and a set loaded before it, and what it asks for
 pub record Example : Type 0 where

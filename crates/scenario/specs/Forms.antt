@@ -53,7 +53,7 @@ forms = map bytes (
     "load #65536 -" ∷
     [])
 
--- as many forms
+-- how many they are
 abbrev pub formCount : ℕ
 formCount = 35
 

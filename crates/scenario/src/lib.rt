@@ -16,7 +16,7 @@ ghost use Rattle.scenario.specs.Forms.{mostOf, valueOf, valueAt, beginsA
 ghost use Rattle.scenario.specs.Lines.{bad, areNumbers, readLoad, readParted, openingOf, readAny, hasNeeded, readAfter, commandOf};
 
 // What a line asks for: the place of its form, or one of the numbers after it; and the numbers of its second word and of
-// its last. A bad line has no numbers.
+// its last. A load with positions has its room and how many they are. What is not there is 0, and all of a bad line is.
 pub struct Command {
     pub verb: usize,
     pub first: u64,

@@ -1,15 +1,15 @@
 -- The laws of a number as its digits are read.
-use mathlib.Core.Path.{_≡_, refl}
+use mathlib.Core.Path.{_≡_, refl, sym, _∙_}
 use mathlib.Core.List.{List}
 use mathlib.Core.Bool.{Bool, true, false, _&&_}
 use mathlib.Core.Logic.{_⊎_, inl, inr}
 use Prim.Native.Nat.{ℕ, _+_, _-_, _*_, _^_, _≤_, _<_}
 use native.Mathlib.Numerals.{add-one}
+use native.Mathlib.Omega.{arith}
 use lib.Dec.{leb, ltb}
 use lib.ListN.{length, getD, drop, drop-of-length-le}
 use lib.Seq.{drop-cons}
 use borrow.Author.Tests.{le-leb, lt-leb, lt-ltb, le-ltb}
-use Rattle.base.specs.Folds.{pick}
 use Rattle.words.specs.declared.Read.{Read}
 use Rattle.words.specs.Numbers.{readIf, withDigit, numberFrom, numberOf, numberTo}
 
@@ -32,18 +32,28 @@ module _ (v b : ℕ) where
   unfolding withDigit
   digit-past l h f = rw (le-leb 48 b l, le-leb b 57 h, le-ltb (v * 10 + (b - 48)) (2 ^ 64) f)
 
--- what is left of a word from k on, after the value v
-module _ (v : ℕ) (s : List ℕ) (k : ℕ) where
-  pub number-end : length s ≤ k → numberFrom v (drop k s) ≡ readIf true v
-  unfolding numberFrom
-  number-end h = rw (drop-of-length-le s h)
+-- a loop that reads the digits of s has the value v of the first k
+pub record Reading (s : List ℕ) (v k : ℕ) : Type 0 where
+  pub within : k ≤ length s
+  pub rest : numberOf s ≡ numberFrom v (drop k s)
 
-  pub number-next : {r : Read} {t : Bool} → k < length s → r ≡ withDigit v (getD s k 0) → r .good ≡ t
-      → numberFrom v (drop k s) ≡ pick t (numberFrom (r .value) (drop (k + 1) s)) (readIf false 0)
+module _ {s : List ℕ} {v k : ℕ} (h : Reading s v k) where
+  pub reading-all : length s ≤ k → readIf true v ≡ numberOf s
   unfolding numberFrom
-  number-next h e g = rw (add-one k, drop-cons s k 0 h, ← e, g)
+  reading-all l = sym (h .rest ∙ rw (drop-of-length-le s l))
+
+  -- one more byte, by what it makes of the value
+  module _ {r : Read} (l : k < length s) (e : r ≡ withDigit v (getD s k 0)) where
+    pub reading-more : r .good ≡ true → Reading s (r .value) (k + 1)
+    unfolding numberFrom
+    reading-more g = record { within = omega arith; rest = h .rest ∙ rw (add-one k, drop-cons s k 0 l, ← e, g) }
+
+    pub reading-off : r .good ≡ false → readIf false 0 ≡ numberOf s
+    unfolding numberFrom
+    reading-off g = sym (h .rest ∙ rw (drop-cons s k 0 l, ← e, g))
 
 -- a number that was read, held to the most that it may be
-pub number-held : (w : List ℕ) (m : ℕ) {r : Read} {t : Bool} → r ≡ numberOf w → r .good && leb (r .value) m ≡ t → readIf t (r .value) ≡ numberTo w m
+pub number-held : (w : List ℕ) (m : ℕ) {r : Read} {t : Bool} → r ≡ numberOf w → r .good && leb (r .value) m ≡ t
+    → readIf t (r .value) ≡ numberTo w m
 unfolding numberTo
 number-held w m e g = rw (← e, g)

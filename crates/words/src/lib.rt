@@ -7,7 +7,7 @@ ghost use lib.ListN.{length, drop};
 ghost use Rattle.words.specs.Pieces.{pieceOf, pieceCount, placeOf};
 ghost use Rattle.words.specs.Numbers.{withDigit, numberOf, numberTo};
 
-// A number of 64 bits, where a word is one.
+// A number of 64 bits, where a word is one; else 0.
 pub struct Read {
     pub good: bool,
     pub value: u64,

@@ -23,10 +23,16 @@ loop-holds c = folded-none
 
 returns : tie.Need-returns Inv-loop μ-loop
 unfolding areNumbers
-returns c = every-off (c .before .before .before .before .loop .inv) (c .before .before .before .loop-test .taken) (ap (λ (r : Read). r .good) (c .before .number .ensures ∙ ap numberOf (c .before .before .piece .ensures))) (c .if1 .left)
+returns c =
+    every-off (c .before .before .before .before .loop .inv) (c .before .before .before .loop-test .taken)
+    (ap (λ (r : Read). r .good) (c .before .number .ensures ∙ ap numberOf (c .before .before .piece .ensures)))
+    (c .if1 .left)
 
 loop-again : tie.Need-loop-again Inv-loop μ-loop
-loop-again c = every-on (c .before .before .before .before .loop .inv) (c .before .before .before .loop-test .taken) (ap (λ (r : Read). r .good) (c .before .number .ensures ∙ ap numberOf (c .before .before .piece .ensures))) (c .if1 .taken)
+loop-again c =
+    every-on (c .before .before .before .before .loop .inv) (c .before .before .before .loop-test .taken)
+    (ap (λ (r : Read). r .good) (c .before .number .ensures ∙ ap numberOf (c .before .before .piece .ensures)))
+    (c .if1 .taken)
 
 returns-2 : tie.Need-returns-2 Inv-loop μ-loop
 unfolding areNumbers

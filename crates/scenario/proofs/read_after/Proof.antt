@@ -9,7 +9,9 @@ returns : tie.Need-returns
 returns c = after-read _ _ _ _ (c .before .before .read-any .ensures) (c .before .has-needed .ensures) (c .if1 .taken)
 
 returns-2 : tie.Need-returns-2
-returns-2 c = c .bad-line .ensures ∙ after-read _ _ _ _ (c .before .before .before .read-any .ensures) (c .before .before .has-needed .ensures) (c .before .if1 .left)
+returns-2 c =
+    c .bad-line .ensures ∙ after-read _ _ _ _ (c .before .before .before .read-any .ensures)
+    (c .before .before .has-needed .ensures) (c .before .if1 .left)
 
 pub read-after-spec : {M : Type 1} → statement M
 read-after-spec =

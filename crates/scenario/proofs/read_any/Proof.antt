@@ -5,10 +5,10 @@ use Rattle.scenario.proofs.read_any.Statement.{statement}
 use Rattle.scenario.proofs.read_any.Tie as tie
 
 returns : tie.Need-returns
-returns c = any-parted _ _ (c .before .before .opening .ensures) (c .before .if1 .taken) (c .read-parted .ensures)
+returns c = search any-parted
 
 returns-2 : tie.Need-returns-2
-returns-2 c = any-plain _ _ (c .before .opening .ensures) (c .if1 .left)
+returns-2 c = search any-plain
 
 pub read-any-spec : {M : Type 1} → statement M
 read-any-spec =

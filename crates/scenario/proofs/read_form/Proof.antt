@@ -11,7 +11,7 @@ sub-end : tie.Need-sub-end
 sub-end c = omega (arith, c .pieces .ensures, pieces-some 32 (now (c .before .before .before .args .form)))
 
 returns : tie.Need-returns
-returns c = form-read _ _ _ (c .before .before .pieces .ensures) (c .before .value-at .ensures) (c .value-at2 .ensures)
+returns c = search form-read
 
 pub read-form-spec : {M : Type 1} → statement M
 read-form-spec =

@@ -6,16 +6,23 @@ use Rattle.scenario.proofs.read_load.Statement.{statement}
 use Rattle.scenario.proofs.read_load.Tie as tie
 
 returns : tie.Need-returns
-returns c = c .bad-line .ensures ∙ load-few _ _ (c .before .before .pieces .ensures) (c .before .if1 .taken)
+returns c = c .bad-line .ensures ∙ load-few _ _ (c .before .before .pieces .ensures) (search needs)
 
 returns-2 : tie.Need-returns-2
-returns-2 c = c .bad-line2 .ensures ∙ load-many _ _ (c .before .before .before .pieces .ensures) (c .before .before .if1 .left) (c .before .if2 .taken)
+returns-2 c =
+    c .bad-line2 .ensures ∙ load-many _ _ (c .before .before .before .pieces .ensures) (search needs) (search needs)
 
 returns-3 : tie.Need-returns-3
-returns-3 c = load-read _ _ (c .before .before .before .before .before .before .pieces .ensures) (c .before .before .before .before .before .if1 .left) (c .before .before .before .before .if2 .left) (c .before .before .before .value-at .ensures) (c .before .before .begins-as .ensures) (c .before .are-numbers .ensures) (c .if3 .taken)
+returns-3 c =
+    load-read _ _ (c .before .before .before .before .before .before .pieces .ensures) (search needs) (search needs)
+    (c .before .before .before .value-at .ensures) (c .before .before .begins-as .ensures)
+    (c .before .are-numbers .ensures) (c .if3 .taken)
 
 returns-4 : tie.Need-returns-4
-returns-4 c = c .bad-line3 .ensures ∙ load-read _ _ (c .before .before .before .before .before .before .before .pieces .ensures) (c .before .before .before .before .before .before .if1 .left) (c .before .before .before .before .before .if2 .left) (c .before .before .before .before .value-at .ensures) (c .before .before .before .begins-as .ensures) (c .before .before .are-numbers .ensures) (c .before .if3 .left)
+returns-4 c =
+    c .bad-line3 .ensures ∙ load-read _ _ (c .before .before .before .before .before .before .before .pieces .ensures)
+    (search needs) (search needs) (c .before .before .before .before .value-at .ensures)
+    (c .before .before .before .begins-as .ensures) (c .before .before .are-numbers .ensures) (c .before .if3 .left)
 
 pub read-load-spec : {M : Type 1} → statement M
 read-load-spec =

@@ -5,10 +5,10 @@ use Rattle.scenario.proofs.value.Statement.{statement}
 use Rattle.scenario.proofs.value.Tie as tie
 
 returns : tie.Need-returns
-returns c = value-number _ _ (c .before .before .before .byte-at .ensures) (c .before .before .if1 .taken) (c .before .most .ensures) (c .number-to .ensures)
+returns c = search value-number
 
 returns-2 : tie.Need-returns-2
-returns-2 c = value-choice _ _ (c .before .before .byte-at .ensures) (c .before .if1 .left) (c .place .ensures)
+returns-2 c = search value-choice
 
 pub value-spec : {M : Type 1} → statement M
 value-spec =

@@ -5,7 +5,7 @@ use Rattle.scenario.proofs.value_at.Statement.{statement}
 use Rattle.scenario.proofs.value_at.Tie as tie
 
 returns : tie.Need-returns
-returns c = value-there _ _ _ (c .before .before .piece .ensures) (c .before .piece2 .ensures) (c .value .ensures)
+returns c = search value-there
 
 pub value-at-spec : {M : Type 1} → statement M
 value-at-spec =

@@ -6,7 +6,9 @@ use Rattle.words.proofs.piece.Statement.{statement}
 use Rattle.words.proofs.piece.Tie as tie
 
 returns : tie.Need-returns
-returns c = c .part .ensures ∙ piece-part _ _ _ (c .before .before .piece-start .ensures .0) (c .before .piece-end .ensures) ∙ sym (c .before .before .piece-start .ensures .1)
+returns c =
+    c .part .ensures ∙ piece-part _ _ _ (c .before .before .piece-start .ensures .0) (c .before .piece-end .ensures) ∙
+    sym (c .before .before .piece-start .ensures .1)
 
 pub piece-spec : {M : Type 1} → statement M
 piece-spec =

@@ -1,16 +1,13 @@
--- `place` meets its contract: a search that has passed k choices.
-use mathlib.Core.Path.{ap, _∙_}
+-- `place` meets its contract.
 use Prim.Native.Nat.{_-_}
-use Rattle.base.proofs.Loops.{Passed, passed-none, passed-more, passed-hit, passed-all}
-use Rattle.text.specs.Strings.{same}
-use Rattle.words.specs.Pieces.{pieceOf}
-use Rattle.words.proofs.Parting.{place-found, place-none}
+use Rattle.base.proofs.Loops.{passed-none}
+use Rattle.words.proofs.Parting.{Choosing, choosing-more, choosing-here, choosing-none}
 use borrow.Author.Needs.{needs}
 use Rattle.words.proofs.place.Statement.{statement}
 use Rattle.words.proofs.place.Tie as tie
 
 abbrev Inv-loop : tie.InvT-loop
-Inv-loop choices parting wanted count k₀ k = Passed (λ i. same wanted (pieceOf choices parting i)) count k
+Inv-loop choices parting wanted count k₀ k = Choosing choices parting wanted count k
 
 abbrev μ-loop : tie.MeasureT-loop
 μ-loop choices parting wanted count k₀ k = count - k
@@ -19,13 +16,13 @@ loop-holds : tie.Need-loop-holds Inv-loop μ-loop
 loop-holds c = passed-none
 
 returns : tie.Need-returns Inv-loop μ-loop
-returns c = place-found _ _ _ (c .before .before .before .before .before .pieces .ensures) (passed-hit (c .before .before .before .before .loop .inv) (c .before .before .before .loop-test .taken) (c .before .same-bytes .ensures ∙ ap (same _) (c .before .before .piece .ensures)) (c .if1 .taken)) (c .before .before .before .loop-test .taken)
+returns c = search choosing-here
 
 loop-again : tie.Need-loop-again Inv-loop μ-loop
-loop-again c = passed-more (c .before .before .before .before .loop .inv) (c .before .before .before .loop-test .taken) (c .before .same-bytes .ensures ∙ ap (same _) (c .before .before .piece .ensures)) (c .if1 .left)
+loop-again c = search choosing-more
 
 returns-2 : tie.Need-returns-2 Inv-loop μ-loop
-returns-2 c = place-none _ _ _ (c .before .before .pieces .ensures) (passed-all (c .before .loop .inv) (c .loop-test .left)) (c .loop-test .left)
+returns-2 c = search choosing-none
 
 pub place-spec : {M : Type 1} → statement M
 place-spec =
