@@ -87,8 +87,9 @@ class Tree:
         return names
 
     def everything(self):
-        """Every name that the tree declares, every crate, and every file of definitions or proofs by its name."""
+        """Every name that the tree declares, every crate, every source file and every must-fail edit by its name."""
         names = set(self.crates)
+        names.update(name for crate in self.crates for name, _, _ in self.edits(crate))
         for path in self.glob('crates/**/*.antt') + self.glob('crates/**/*.rt'):
             names |= self.declared(path)
             names.add(os.path.splitext(os.path.basename(path))[0])
