@@ -2,6 +2,7 @@
 
 `scripts/functions` and `scripts/check_docs` read it. Comments count for nothing here: a name that stands only in one is not declared.
 """
+import functools
 import glob
 import os
 import re
@@ -14,12 +15,46 @@ SIGNATURE = re.compile(r'(?m)^\s*' + WORDS + '(' + NAME + '(?: ' + NAME + ')*) :
 FUNCTION = re.compile(r'(?m)^[ \t]*(pub )?(?:extern "C" )?fn (\w+)')
 
 
+@functools.lru_cache(maxsize=None)
+def without_comments(text, mark):
+    """The text with each comment blanked out, so that places stay what they are."""
+    return re.sub(r'(?m)(?<!\S)' + mark + '.*$', lambda m: ' ' * len(m.group()), text)
+
+
+@functools.lru_cache(maxsize=None)
+def types_in(text):
+    """Each struct and enum of a source, in one line, by name."""
+    found = {}
+    for m in re.finditer(r'(?m)^(?:pub )?(struct|enum) (\w+) \{(.*?)^\}', text, re.S):
+        inside = ' '.join(m.group(3).split()).replace('pub ', '').rstrip(',').replace(', }', ' }')
+        found[m.group(2)] = f'{m.group(1)} {m.group(2)} {{ {inside} }}'
+    return found
+
+
+@functools.lru_cache(maxsize=None)
+def declared_in_definitions(text):
+    """Statements, definitions, types, constructors and fields."""
+    names = set(TYPE.findall(text))
+    for together in SIGNATURE.findall(text):
+        names.update(together.split())
+    return names
+
+
+@functools.lru_cache(maxsize=None)
+def declared_in_source(text):
+    """Functions, types, constants, variants and fields, and what is brought in by its name."""
+    names = set(re.findall(r'(?m)^\s*(?:pub(?:\(crate\))? )?(?:extern "C" )?(?:fn|const|struct|enum|type) (\w+)', text))
+    names.update(re.findall(r'(?m)^(?:pub )?use \w+::(\w+);', text))
+    for words in types_in(text).values():
+        names.update(re.findall(r'(?:^|[,{]) ?(\w+)(?=[,:({ ])', words[words.index('{') + 1:]))
+    return names
+
+
 class Tree:
-    """The files of a repository, each read once."""
+    """The files of a repository."""
 
     def __init__(self, root):
         self.root = root
-        self.read_before = {}
         self.crates = {}
         for line in self.text('crates.txt').split('\n'):
             name, colon, imports = line.split('#')[0].partition(':')
@@ -37,11 +72,8 @@ class Tree:
             return file.read()
 
     def bare(self, path):
-        """The file with each comment blanked out, so that places stay what they are."""
-        if path not in self.read_before:
-            mark = r'(?m)(?<!\S)--.*$' if path.endswith('.antt') else r'(?m)(?<!\S)//.*$'
-            self.read_before[path] = re.sub(mark, lambda m: ' ' * len(m.group()), self.text(path))
-        return self.read_before[path]
+        """The file without its comments."""
+        return without_comments(self.text(path), '--' if path.endswith('.antt') else '//')
 
     def is_library(self, crate):
         return self.exists(f'crates/{crate}/src/lib.rt')
@@ -66,25 +98,11 @@ class Tree:
         return words.replace('( ', '(').replace(', )', ')').replace('mut x: State', 'x: State')
 
     def types(self, path):
-        """Each struct and enum of a source file, in one line, by name."""
-        for m in re.finditer(r'(?m)^(?:pub )?(struct|enum) (\w+) \{(.*?)^\}', self.bare(path), re.S):
-            inside = ' '.join(m.group(3).split()).replace('pub ', '').rstrip(',').replace(', }', ' }')
-            yield m.group(2), f'{m.group(1)} {m.group(2)} {{ {inside} }}'
+        return types_in(self.bare(path)).items()
 
     def declared(self, path):
-        """The names that a file declares: statements, definitions, constructors and fields; functions, types, variants and constants."""
-        text = self.bare(path)
-        if path.endswith('.antt'):
-            names = set(TYPE.findall(text))
-            for together in SIGNATURE.findall(text):
-                names.update(together.split())
-            return names
-        names = set(re.findall(r'(?m)^\s*(?:pub(?:\(crate\))? )?(?:extern "C" )?(?:fn|const|struct|enum|type) (\w+)', text))
-        names.update(re.findall(r'(?m)^(?:pub )?use \w+::(\w+);', text))
-        for name, words in self.types(path):
-            inside = words[words.index('{') + 1:]
-            names.update(re.findall(r'(?:^|[,{]) ?(\w+)(?=[,:({ ])', inside))
-        return names
+        """The names that a file declares."""
+        return (declared_in_definitions if path.endswith('.antt') else declared_in_source)(self.bare(path))
 
     def everything(self):
         """Every name that the tree declares, every crate, every source file and every must-fail edit by its name."""
