@@ -1,11 +1,13 @@
-"""What the tree declares: its crates, functions, types, statements and must-fail edits.
+"""What the tree declares: its crates, functions, types, statements and must-fail edits. The check of the pages reads the sources by it.
 
-`scripts/functions` and `scripts/check_docs` read it. Comments count for nothing here: a name that stands only in one is not declared.
+Comments count for nothing here: a name that stands only in one is not declared.
 """
 import functools
 import glob
 import os
 import re
+
+ROOT = os.path.dirname(os.path.dirname(os.path.dirname(os.path.abspath(__file__))))
 
 # A name in a definition or a proof; the lines that declare one.
 NAME = r"[A-Za-z][\w\-·′″₀]*"
