@@ -64,7 +64,8 @@ if __name__ == '__main__':
     here = Tree(ROOT)
     if sys.argv[1:] == ['--write']:
         before, _, after = parted(here.text(PAGE))
+        page = before + table(here) + after
         with open(os.path.join(here.root, PAGE), 'w', encoding='utf-8') as file:
-            file.write(before + table(here) + after)
+            file.write(page)
     else:
         print(table(here), end='')
