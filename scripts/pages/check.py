@@ -57,6 +57,12 @@ WORDS = ['Call', 'afterCalls', 'freshState', 'accepted', 'Mark', 'story', 'ActsO
          'chosen', 'nextAction', 'formed', 'gives', 'check', 'refusedWith', 'positioned', 'namesFrom', 'sizesFrom', 'descriptionsFrom', 'textRead',
          'servicesFrom', 'lowestCyclic', 'stored', 'settingsOf', 'refusalNumber']
 
+# The wrong programs that paper 01 names. Any other edit may go together with its row; these may not.
+SHUT_OUT = ['loader/refuses_all', 'loader/one_fixed_table', 'engine/always_quiet', 'events/ignores_start', 'events/ignores_stop_all',
+            'events/ignores_clock', 'rule_records/shutdown_in_one_action', 'engine/run_invents_its_number', 'engine/run_writes_past_its_number',
+            'rules/settles_while_blocked', 'rules/ends_while_blocked', 'rules/deadline_before_launch', 'rules/settles_user_wanted',
+            'rules/releases_before_waking', 'rules/begins_on_closing']
+
 # What README.md names of each demand, so that a reader needs no other page to find it.
 ON_README = ['refusal-leaves-all', 'refused-load-leaves-all', 'load', 'outcome', 'Guarantee', 'guarantee']
 
@@ -196,6 +202,10 @@ class Check:
                 self.fault(AUDIT, f'{path} has {named.count(path)} rows')
         for path in set(named) - set(there):
             self.fault(AUDIT, f'there is no {path}')
+        for name in SHUT_OUT:
+            path = name.replace('/', '/must-fail/')
+            if f'crates/{path}.edit' not in there:
+                self.fault(f'crates/{path}.edit', 'paper 01 names this wrong program, and no edit stands for it')
 
     def contracts(self):
         """Demand 1: every public function of a library refuses bad input itself. So it has a contract, and asks nothing of its caller."""

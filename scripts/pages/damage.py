@@ -77,6 +77,8 @@ DAMAGES = [
     ('a file of definitions is not on the page', 'Tokens.antt', {AUDIT: without_line('`crates/storing/specs/Tokens.antt`')}),
     ('an edit is gone, its row kept', 'always_quiet', {'crates/engine/must-fail/always_quiet.edit': gone}),
     ('an edit is kept, its row gone', 'always_quiet', {AUDIT: without_line('must-fail/always_quiet.edit')}),
+    ('an edit is gone with all that is said of it', 'refuses_all',
+     {'crates/loader/must-fail/refuses_all.edit': gone, AUDIT: without_line('refuses_all'), DESIGN: swap(' | `refuses_all` |', ' |  |')}),
     ('an edit no longer applies', 'always_quiet', {'crates/engine/must-fail/always_quiet.edit': swap('old: answer', 'old: the answer')}),
     ('a public function has a precondition', 'query is public', {'crates/query/src/lib.rt': swap('    ensures { λ a.', '    requires { ⌜ t .count ≤ 32 ⌝ }\n    ensures { λ a.')}),
     ('a public function has no contract', 'is_down is public', {'crates/record_tests/src/lib.rt': without_line('b ≡ isDown p')}),
