@@ -51,6 +51,9 @@ PROMISED = [
     ('reader-waits', 'crates/rules/specs/Readings.antt', 'pub reader-waits : answers pair freshState'),
 ]
 
+# Where the statement stands that the auditor's page prints.
+STATED = ['crates/guarantee/specs/Guarantee.antt', 'crates/rules/specs/Demand.antt']
+
 # The words of the demands whose definitions must stand on the auditor's page.
 WORDS = ['Call', 'afterCalls', 'freshState', 'accepted', 'Mark', 'story', 'ActsOn', 'recorded', 'Path', 'hardLinks', 'Clear', 'Safe', 'Rests',
          'eventless', 'actionsIn', 'deadlineKill', 'sent', 'ToQuiet', 'Round', 'Rounds', 'WoundDown', 'NoZeroTimeout', 'fits', 'leaves', 'hands',
@@ -177,6 +180,10 @@ class Check:
                 self.fault(file, f'{name} is no longer declared as: {words}')
             if not any(f'`{name}`' in row and f'`{file}`' in row for row in audit):
                 self.fault(AUDIT, f'no row has {name} with {file}')
+        printed = ' '.join(self.tree.bare(f) for f in STATED if self.tree.exists(f))
+        for line in blocks(self.whole[AUDIT]):
+            if not self.tree.exists(line.split()[0]) and line not in printed:
+                self.fault(AUDIT, f'it prints what {", ".join(STATED)} do not have: {line}')
         for name in WORDS:
             if not any(f'`{name}`' in row for row in audit if files_in(row)):
                 self.fault(AUDIT, f'no row says what {name} is defined as')

@@ -64,6 +64,7 @@ DAMAGES = [
     ('the worked examples are', 'worked', {f'{GUARANTEE}/specs/Worked.antt': comment_out('pub worked : AllPass cases')}),
     ('a theorem says less', 'demand3', {f'{RULES}/proofs/Demand.antt': swap('pub demand3 : Demand3', 'pub demand3 : Unit')}),
     ('the statement says less', 'Guarantee', {f'{GUARANTEE}/specs/Guarantee.antt': swap('→ Holds (load', '→ Held (load')}),
+    ('a part of it is gone', 'pub safe', {f'{RULES}/specs/Demand.antt': without_line('pub safe : Safe t nobody')}),
     ('a contract cites another definition', 'stop_all', {'crates/events/src/lib.rt': swap('outcome t x stopAll', 'outcome t x nextCall')}),
     ('a statement is renamed', 'always-safe', {f'{RULES}/proofs/Safety.antt': rename('always-safe', 'mostly-safe')}),
     ('a case is renamed', 'reader-waits', {f'{RULES}/specs/Readings.antt': rename('reader-waits', 'reader-stays')}),
