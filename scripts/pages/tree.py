@@ -93,11 +93,11 @@ class Tree:
             yield home + m.group(2), bool(m.group(1)), m.start(), found[k + 1].start() if k + 1 < len(found) else len(text)
 
     def signature(self, path, start):
-        """The parameters and the result of the function that begins there, in one line."""
+        """The name, parameters and result of the function that begins there, in one line, as a caller sees them."""
         text = self.bare(path)[start:]
         end = re.search(r'\n\s*(?:requires|ensures|\{)|\s\{\s*\n', text).start()
         words = ' '.join(text[:end].split('fn ', 1)[1].split())
-        return words.replace('( ', '(').replace(', )', ')').replace('mut x: State', 'x: State')
+        return re.sub(r'\bmut (?=\w+:)', '', words.replace('( ', '(').replace(', )', ')'))
 
     def types(self, path):
         return types_in(self.bare(path)).items()
