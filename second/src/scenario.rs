@@ -1,6 +1,6 @@
 //! The scenario runner: reads a scenario, a set of descriptions and a list of
-//! calls, and writes an answer for every call. The format is that of the
-//! scenario paper, byte for byte.
+//! calls, and writes an answer for every call. The format is that of
+//! docs/SCENARIO.md, byte for byte.
 
 use crate::engine::{self, Action, Cause, Deadline, Kind, Phase, ServiceSet, State, Table, PLACES};
 use crate::loader;
