@@ -2,7 +2,8 @@
 //! broken in a short time.
 
 use second::engine::{Kind, Service, ServiceType, Table};
-use second::search::{broken_by, search, steps_to_quiet, Call, Watch};
+use second::search::search;
+use second::watch::{broken_by, steps_to_quiet, Call, Watch};
 use std::time::Duration;
 
 /// The pair of paper 01 as a table.
