@@ -156,11 +156,11 @@ impl List<'_> {
         let time = past_every_deadline(self.random, self.watch.table, &self.watch.state);
         self.make(Call::Clock(time))?;
         self.calls_between(between)?;
-        self.to_quiet()?;
+        self.actions_to_quiet()?;
         self.calls_between(between)?;
         self.ends_of_killed()?;
         self.calls_between(between)?;
-        self.to_quiet()
+        self.actions_to_quiet()
     }
 
     fn calls_between(&mut self, most: u64) -> Result<(), String> {
@@ -172,7 +172,7 @@ impl List<'_> {
     }
 
     /// Actions to quiet, singly or by a run.
-    fn to_quiet(&mut self) -> Result<(), String> {
+    fn actions_to_quiet(&mut self) -> Result<(), String> {
         if !self.random.one_in(3) {
             return self.make(RUN);
         }
