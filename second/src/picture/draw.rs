@@ -233,7 +233,7 @@ impl Drawing<'_> {
             ));
             self.put(format!(
                 "<text x=\"{x}\" y=\"{y}\" transform=\"rotate(-45 {x} {y})\"{}>{}</text>",
-                if step.is_call { CALL_STYLE } else { "" },
+                label_style(step.is_call),
                 escaped(&step.label)
             ));
         }
@@ -316,8 +316,8 @@ impl Drawing<'_> {
         self.put(live_line(x, y - 2, 16));
         self.meaning(x + 21, y, "live process", "");
         (x, y) = (self.left, y + 25);
-        x = self.meaning(x, y, "a call of the host", CALL_STYLE);
-        self.meaning(x, y, "an action of the core", "");
+        x = self.meaning(x, y, "a call of the host", &label_style(true));
+        self.meaning(x, y, "an action of the core", &label_style(false));
     }
 
     /// Words of the legend; gives where the next may begin.
@@ -331,7 +331,13 @@ impl Drawing<'_> {
 const LEGEND_WIDTH: usize = 790;
 
 /// How the label of a call is told from that of an action.
-const CALL_STYLE: &str = " fill=\"#1f4e8c\" font-style=\"italic\"";
+fn label_style(is_call: bool) -> String {
+    if is_call {
+        format!(" fill=\"{BLUE}\" font-style=\"italic\"")
+    } else {
+        String::new()
+    }
+}
 
 /// The shape around a point, upon white.
 type Shape = fn(usize, usize) -> String;
