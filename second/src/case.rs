@@ -50,24 +50,26 @@ impl Case {
     pub fn written(&self) -> String {
         match self {
             Case::Scenario(input) => printable(input),
-            Case::Folder(folder) => {
-                let mut text = String::from("standard input:\n");
-                text.push_str(&printable(&folder.input));
-                for (name, entry) in &folder.entries {
-                    let name = printable(name);
-                    match entry {
-                        Entry::File(bytes) => {
-                            text.push_str(&format!("\nfile {name}, {} bytes:\n", bytes.len()));
-                            text.push_str(&printable(bytes));
-                        }
-                        Entry::Directory => text.push_str(&format!("\ndirectory {name}")),
-                        Entry::LostLink => text.push_str(&format!("\nlink to nothing {name}")),
-                    }
-                }
-                text.push('\n');
-                text
-            }
+            Case::Folder(folder) => folder.written(),
         }
+    }
+}
+
+impl Folder {
+    fn written(&self) -> String {
+        let mut text = format!("standard input:\n{}", printable(&self.input));
+        for (name, entry) in &self.entries {
+            let name = printable(name);
+            text.push_str(&match entry {
+                Entry::File(bytes) => {
+                    format!("\nfile {name}, {} bytes:\n{}", bytes.len(), printable(bytes))
+                }
+                Entry::Directory => format!("\ndirectory {name}"),
+                Entry::LostLink => format!("\nlink to nothing {name}"),
+            });
+        }
+        text.push('\n');
+        text
     }
 }
 

@@ -80,22 +80,25 @@ fn lay_out(case: &Case, place: &Path) -> io::Result<()> {
         Case::Scenario(input) => fs::write(place.join(INPUT), input),
         Case::Folder(folder) => {
             fs::write(place.join(INPUT), &folder.input)?;
-            let services = place.join(SERVICES);
-            if services.exists() {
-                fs::remove_dir_all(&services)?;
-            }
-            fs::create_dir_all(&services)?;
-            for (name, entry) in &folder.entries {
-                let path = services.join(OsStr::from_bytes(name));
-                match entry {
-                    Entry::File(text) => fs::write(path, text)?,
-                    Entry::Directory => fs::create_dir(path)?,
-                    Entry::LostLink => std::os::unix::fs::symlink("to/nothing", path)?,
-                }
-            }
-            Ok(())
+            lay_out_entries(folder, &place.join(SERVICES))
         }
     }
+}
+
+fn lay_out_entries(folder: &Folder, services: &Path) -> io::Result<()> {
+    if services.exists() {
+        fs::remove_dir_all(services)?;
+    }
+    fs::create_dir_all(services)?;
+    for (name, entry) in &folder.entries {
+        let path = services.join(OsStr::from_bytes(name));
+        match entry {
+            Entry::File(text) => fs::write(path, text)?,
+            Entry::Directory => fs::create_dir(path)?,
+            Entry::LostLink => std::os::unix::fs::symlink("to/nothing", path)?,
+        }
+    }
+    Ok(())
 }
 
 /// A folder of one's own for the files of a case; removed at the end.
@@ -169,24 +172,16 @@ impl Drop for Workshop {
     }
 }
 
-/// Compares the programs; true where no case tells them apart.
+/// Compares the programs up to the first case that tells them apart; true
+/// where none does.
 pub fn compare(programs: &Programs, order: &Order) -> io::Result<bool> {
     let workshop = Workshop::new()?;
-    let begun = Instant::now();
-    let mut told = begun;
+    let mut told = Instant::now();
     let mut compared = 0;
-    let wanted: Vec<(String, Case)> = fixed_cases()
-        .into_iter()
-        .filter(|fixed| order.kinds.iter().any(|kind| is_of_kind(&fixed.case, *kind)))
-        .map(|fixed| (format!("fixed case: {}", fixed.name), fixed.case))
-        .collect();
-    let fixed = wanted.len() as u64;
-    let generated = (0..order.count.saturating_sub(fixed)).map(|index| {
-        let kind = order.kinds[(index % order.kinds.len() as u64) as usize];
-        let name = format!("{} seed {} index {index}", kind.word(), order.seed);
-        (name, generate(kind, order.seed, index))
-    });
-    for (name, case) in wanted.into_iter().chain(generated) {
+    let first = fixed_cases_of(&order.kinds);
+    let fixed = first.len() as u64;
+    let rest = (0..order.count.saturating_sub(fixed)).map(|index| generated_case(order, index));
+    for (name, case) in first.into_iter().chain(rest) {
         let Some(pair) = programs.for_case(&case) else {
             return Err(io::Error::other("a program for this kind of case is not given"));
         };
@@ -196,10 +191,7 @@ pub fn compare(programs: &Programs, order: &Order) -> io::Result<bool> {
             println!("difference in {name}");
             if !order.brief {
                 let small = show_difference(&workshop, pair, &case, &outcomes);
-                if let Some(folder) = &order.keep {
-                    fs::create_dir_all(folder)?;
-                    lay_out(&small, folder)?;
-                }
+                keep(&small, order.keep.as_deref())?;
             }
             println!("compared {compared} cases ({} fixed), a difference", fixed.min(compared));
             return Ok(false);
@@ -211,6 +203,31 @@ pub fn compare(programs: &Programs, order: &Order) -> io::Result<bool> {
     }
     println!("compared {compared} cases ({fixed} fixed), no difference");
     Ok(true)
+}
+
+/// The fixed cases of these kinds with their names.
+fn fixed_cases_of(kinds: &[CaseKind]) -> Vec<(String, Case)> {
+    fixed_cases()
+        .into_iter()
+        .filter(|fixed| kinds.iter().any(|kind| is_of_kind(&fixed.case, *kind)))
+        .map(|fixed| (format!("fixed case: {}", fixed.name), fixed.case))
+        .collect()
+}
+
+/// The generated case of this index with its name; the kinds take turns.
+fn generated_case(order: &Order, index: u64) -> (String, Case) {
+    let kind = order.kinds[(index % order.kinds.len() as u64) as usize];
+    let name = format!("{} seed {} index {index}", kind.word(), order.seed);
+    (name, generate(kind, order.seed, index))
+}
+
+/// Lays the case out in the folder, if one is asked for.
+fn keep(case: &Case, folder: Option<&Path>) -> io::Result<()> {
+    let Some(folder) = folder else {
+        return Ok(());
+    };
+    fs::create_dir_all(folder)?;
+    lay_out(case, folder)
 }
 
 fn is_of_kind(case: &Case, kind: CaseKind) -> bool {

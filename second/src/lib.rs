@@ -17,3 +17,4 @@ pub mod reduce;
 pub mod scenario;
 pub mod search;
 pub mod text;
+pub mod watch;

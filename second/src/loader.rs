@@ -74,7 +74,7 @@ pub fn parts_of<'a>(bytes: &'a [u8], positions: &[u64]) -> Result<Vec<Part<'a>>,
     if positions.len() / 2 > PLACES {
         return Err(Refusal::of_set(1));
     }
-    if positions.len() % 2 != 0 {
+    if !positions.len().is_multiple_of(2) {
         return Err(Refusal::of_set(2));
     }
     let mut last = 0;

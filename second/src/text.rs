@@ -2,7 +2,7 @@
 //! its values, and the settings and dependencies it gives, or its first fault
 //! of the numbers 6 to 14.
 
-use crate::engine::types::{Kind, ServiceType, Signal, LARGEST_COUNT, LONGEST_TIME};
+use crate::engine::types::*;
 
 /// A fault in a text: its number and line; line 0 for 13 and 14.
 #[derive(Clone, Copy, PartialEq, Eq, Debug)]
@@ -46,11 +46,11 @@ impl Description {
             command: None,
             stop_command: None,
             restart: false,
-            restart_delay: 2_000,
-            restart_limit_interval: 100_000,
-            restart_limit_count: 3,
-            start_timeout: 600_000,
-            stop_timeout: 100_000,
+            restart_delay: DEFAULT_RESTART_DELAY,
+            restart_limit_interval: DEFAULT_LIMIT_INTERVAL,
+            restart_limit_count: DEFAULT_LIMIT_COUNT,
+            start_timeout: DEFAULT_START_TIMEOUT,
+            stop_timeout: DEFAULT_STOP_TIMEOUT,
             term_signal: Signal::Term,
             dependencies: Vec::new(),
         }

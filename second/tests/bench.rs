@@ -1,6 +1,7 @@
 //! The loops of the benchmark answer the same on the plain and on the careful
 //! engine, and the texts of its load are accepted.
 
+use second::loader::load;
 use std::io::Write;
 use std::process::{Command, Stdio};
 
@@ -34,12 +35,23 @@ fn both_engines_give_the_same_checksums() {
 
 #[test]
 fn the_texts_of_the_load_are_accepted() {
-    for services in ["2", "8", "32"] {
-        let texts = written(&["texts", services], b"");
-        let number: usize = services.parse().expect("a number");
-        assert_eq!(texts.len(), number * 1_027);
-        let twice = written(&["plain", "load", services, "2"], &texts);
-        let broken = written(&["plain", "load", services, "2"], &texts[..texts.len() - 1]);
-        assert_ne!(twice, broken);
+    for services in [2, 8, 32] {
+        let texts = written(&["texts", &services.to_string()], b"");
+        let ends = (0..services).flat_map(|service| [service * 1_027 + 3, (service + 1) * 1_027]);
+        let positions: Vec<u64> = ends.collect();
+        let set = load(&texts, &positions, &mut [0; 65_536]).expect("the texts are accepted");
+        assert_eq!(set.table.count, services);
+        let all = set.table.numbers().map(|service| set.table.services[service]);
+        assert_eq!(all.filter(|service| !service.depends_on.members().is_empty()).count(), {
+            services as usize - 1
+        });
     }
+}
+
+#[test]
+fn the_checksum_of_a_load_tells_a_refusal() {
+    let texts = written(&["texts", "8"], b"");
+    let accepted = written(&["plain", "load", "8", "2"], &texts);
+    let refused = written(&["plain", "load", "8", "2"], &texts[..texts.len() - 1]);
+    assert_ne!(accepted, refused);
 }

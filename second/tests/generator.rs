@@ -1,5 +1,5 @@
 //! The generator: every refusal, clause, rule, type, kind and signal comes to
-//! bear, and the same seed gives the same cases.
+//! bear, and the same seed gives the same cases, today and later.
 
 use second::generate::histogram::histogram;
 use second::generate::{generate, CaseKind};
@@ -18,6 +18,22 @@ fn a_case_follows_from_kind_seed_and_index() {
         assert_ne!(generate(kind, 3, 5), generate(kind, 3, 6));
         assert_ne!(generate(kind, 3, 5), generate(kind, 4, 5));
     }
+}
+
+/// A checksum (FNV-1a) of the first cases of a kind, as they are written.
+fn checksum(kind: CaseKind) -> u64 {
+    let cases = (0..200).map(|index| generate(kind, 1, index).written());
+    cases.flat_map(String::into_bytes).fold(0xcbf2_9ce4_8422_2325, |sum, byte| {
+        (sum ^ u64::from(byte)).wrapping_mul(0x100_0000_01b3)
+    })
+}
+
+/// docs/COMPARISON.md names its runs by their seeds. Where the generator is
+/// changed, those are other cases: make the runs anew, and change these numbers.
+#[test]
+fn a_seed_gives_the_cases_that_it_gave_before() {
+    let before = [0xc2ff_757c_0793_2bbd, 0x0e23_777b_7c01_ba6c, 0x2ca5_b5f1_9fff_a56a];
+    assert_eq!(CaseKind::ALL.map(checksum), before);
 }
 
 #[test]

@@ -1,11 +1,13 @@
 //! The picture of a run: a run is taken apart into steps with states, and the
-//! picture of a tiny case stays as it is stored in `tiny.svg`.
+//! stored pictures, that of the README too, are what is drawn today.
 
 use second::picture::{picture, steps_of};
 use second::scenario::simulate;
 
-const TINY: &[u8] = b"service clock\n|type = process\n|command = /usr/bin/clock\nload 64\n\
-    start 0\nrun\nclock 25000\nend 0 bad\nend 0 bad\nstop 0\nnext\nquery\n";
+fn drawn(scenario: &[u8]) -> String {
+    let steps = steps_of(scenario);
+    picture(&steps, &simulate(&steps)).expect("a set is loaded")
+}
 
 #[test]
 fn a_run_is_taken_apart() {
@@ -15,21 +17,59 @@ fn a_run_is_taken_apart() {
     assert_eq!(steps.as_deref(), Ok(expected.as_str()));
 }
 
+/// Where a picture is to look otherwise, `scripts/picture` makes it anew.
 #[test]
-fn the_picture_of_a_tiny_case_is_stable() {
-    let steps = steps_of(TINY);
-    let drawn = picture(&steps, &simulate(&steps)).expect("a set is loaded");
-    assert_eq!(drawn, include_str!("tiny.svg"));
+fn the_stored_pictures_are_what_is_drawn() {
+    let incident = drawn(include_bytes!("../examples/incident"));
+    assert_eq!(incident, include_str!("../../docs/incident.svg"));
+    assert_eq!(drawn(include_bytes!("every_mark")), include_str!("every_mark.svg"));
+}
+
+#[test]
+fn every_mark_and_every_phase_is_in_a_stored_picture() {
+    let picture = drawn(include_bytes!("every_mark"));
+    let legend_begins = picture.find("aside: down").expect("there is a legend");
+    let words = [
+        "down",
+        "aside",
+        "waiting",
+        "starting",
+        "up",
+        "closing",
+        "ending",
+        "start",
+        "stop",
+        "launch",
+        "USR1",
+        "INT",
+        "KILL",
+        "stop-command",
+        "end good",
+        "end bad",
+        "0 s",
+        "1.2345 s",
+    ];
+    for word in words {
+        assert!(picture[..legend_begins].contains(&format!(">{word}</text>")), "{word}");
+    }
+}
+
+#[test]
+fn a_refusal_is_said_at_its_call() {
+    let scenario = b"service a&b\nservice a\n|type=internal\nload 9\n";
+    assert_eq!(picture(scenario, &simulate(scenario)), Err("no set was loaded".into()));
+    let refused =
+        drawn(b"service a\n|type=internal\nload 9\nend 0 bad\nrun 3 4\nset 0 live 1\nnext\n");
+    for label in ["end a bad: refused 21", "run 3 4: refused 25", "next: refused 24"] {
+        assert!(refused.contains(&format!(">{label}</text>")), "{label}");
+    }
 }
 
 #[test]
 fn answers_that_do_not_fit_are_said() {
+    let scenario = b"service a\n|type=internal\nload 9\nstart 0\n";
     assert_eq!(
-        picture(TINY, b"0 clock process\nok 1\n"),
-        Err("line 5 has no answer: start 0".into())
-    );
-    assert_eq!(
-        picture(b"load 0\n", b"refused 1 service 0 line 0\n"),
-        Err("no set was loaded".into())
+        picture(scenario, b"0 a internal\nok 1\n"),
+        Err("line 4 has no answer: start 0".into())
     );
 }

@@ -14,6 +14,13 @@ pub const LONGEST_TIME: u64 = 864_000_000;
 /// The largest restart limit and restart count.
 pub const LARGEST_COUNT: u64 = 65_535;
 
+/// The settings of a text that says nothing of them.
+pub const DEFAULT_RESTART_DELAY: u64 = 2_000;
+pub const DEFAULT_LIMIT_INTERVAL: u64 = 100_000;
+pub const DEFAULT_LIMIT_COUNT: u64 = 3;
+pub const DEFAULT_START_TIMEOUT: u64 = 600_000;
+pub const DEFAULT_STOP_TIMEOUT: u64 = 100_000;
+
 #[derive(Clone, Copy, PartialEq, Eq, Debug)]
 pub enum ServiceType {
     Process,
@@ -156,11 +163,11 @@ impl Service {
     pub const UNUSED: Service = Service {
         service_type: ServiceType::Internal,
         restart: false,
-        restart_delay: 2_000,
-        restart_limit_interval: 100_000,
-        restart_limit_count: 3,
-        start_timeout: 600_000,
-        stop_timeout: 100_000,
+        restart_delay: DEFAULT_RESTART_DELAY,
+        restart_limit_interval: DEFAULT_LIMIT_INTERVAL,
+        restart_limit_count: DEFAULT_LIMIT_COUNT,
+        start_timeout: DEFAULT_START_TIMEOUT,
+        stop_timeout: DEFAULT_STOP_TIMEOUT,
         term_signal: Signal::Term,
         depends_on: ServiceSet::EMPTY,
         depends_ms: ServiceSet::EMPTY,

@@ -1,6 +1,7 @@
 //! The generator: one case for each kind, seed and index.
 
 pub mod builder;
+pub mod damage;
 pub mod folders;
 pub mod histogram;
 pub mod scenarios;

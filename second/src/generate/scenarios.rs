@@ -52,14 +52,10 @@ pub fn calls_after(random: &mut Random, builder: &mut Builder, calls: u64) {
         };
         let call = random_call(random, &loaded.table, &loaded.state);
         builder.push(&call);
-        match habit {
-            Habit::RunAfterEach => builder.push("run"),
-            Habit::SingleActions => {
-                for _ in 0..random.below(4) {
-                    builder.push("next");
-                }
-            }
-            Habit::Mixed => {}
+        let nexts = if habit == Habit::SingleActions { random.below(4) } else { 0 };
+        (0..nexts).for_each(|_| builder.push("next"));
+        if habit == Habit::RunAfterEach {
+            builder.push("run");
         }
         if random.one_in(4) {
             builder.push("state");
@@ -89,7 +85,11 @@ pub fn random_call(random: &mut Random, table: &Table, state: &State) -> String 
 }
 
 fn good_or_bad(random: &mut Random) -> &'static str {
-    *random.pick(&["good", "bad"])
+    if random.one_in(2) {
+        "good"
+    } else {
+        "bad"
+    }
 }
 
 fn end_of_live(random: &mut Random, table: &Table, state: &State) -> String {
@@ -147,82 +147,78 @@ fn refused_call(random: &mut Random, table: &Table, state: &State) -> String {
 }
 
 /// Lines of the format's edges: most give `bad line`.
+const ODD_LINES: [&[u8]; 62] = [
+    b"next\r",
+    b"next ",
+    b" next",
+    b"Next",
+    b"start",
+    b"start ",
+    b"start  0",
+    b"start 0 ",
+    b"start 0 0",
+    b"start -1",
+    b"start +1",
+    b"start 0x1",
+    b"start 1.0",
+    b"start 18446744073709551615",
+    b"start 18446744073709551616",
+    b"start 00000000000000000000",
+    b"start 000000000000000000000",
+    b"start 99999999999999999999",
+    b"clock 00000000000000000001",
+    b"clock",
+    b"clock none",
+    b"end 0",
+    b"end 0 Good",
+    b"end good 0",
+    b"stop all",
+    b"stop-all ",
+    b"stop-all 0",
+    b"run 4",
+    b"run 257 256",
+    b"run 256 257",
+    b"run 256 256",
+    b"run 0 0",
+    b"run 0256 256",
+    b"run  ",
+    b"query x",
+    b"state ",
+    b"state 0",
+    b"show 0",
+    b"%",
+    b"% next",
+    b"",
+    b"\t",
+    b"\x00",
+    b"\xff\xfe",
+    b"set clock",
+    b"set clock none",
+    b"set 32 live 0",
+    b"set 0 live 2",
+    b"set 0 live 01",
+    b"set 0 phase Up",
+    b"set 0 cause User",
+    b"set 0 deadline None",
+    b"set 0 type process",
+    b"set 0 restarts none",
+    b"table 0 restart 1",
+    b"table 32 waits-for 0",
+    b"table count",
+    b"table count none",
+    b"table 0 start-timeout none",
+    b"load",
+    b"load 65537",
+    b"load x",
+];
+
+/// One of the odd lines, a `load` with positions that are none, or any bytes.
 pub fn odd_line(random: &mut Random) -> Vec<u8> {
-    const LINES: [&[u8]; 62] = [
-        b"next\r",
-        b"next ",
-        b" next",
-        b"Next",
-        b"start",
-        b"start ",
-        b"start  0",
-        b"start 0 ",
-        b"start 0 0",
-        b"start -1",
-        b"start +1",
-        b"start 0x1",
-        b"start 1.0",
-        b"start 18446744073709551615",
-        b"start 18446744073709551616",
-        b"start 00000000000000000000",
-        b"start 000000000000000000000",
-        b"start 99999999999999999999",
-        b"clock 00000000000000000001",
-        b"clock",
-        b"clock none",
-        b"end 0",
-        b"end 0 Good",
-        b"end good 0",
-        b"stop all",
-        b"stop-all ",
-        b"stop-all 0",
-        b"run 4",
-        b"run 257 256",
-        b"run 256 257",
-        b"run 256 256",
-        b"run 0 0",
-        b"run 0256 256",
-        b"run  ",
-        b"query x",
-        b"state ",
-        b"state 0",
-        b"show 0",
-        b"%",
-        b"% next",
-        b"",
-        b"\t",
-        b"\x00",
-        b"\xff\xfe",
-        b"set clock",
-        b"set clock none",
-        b"set 32 live 0",
-        b"set 0 live 2",
-        b"set 0 live 01",
-        b"set 0 phase Up",
-        b"set 0 cause User",
-        b"set 0 deadline None",
-        b"set 0 type process",
-        b"set 0 restarts none",
-        b"table 0 restart 1",
-        b"table 32 waits-for 0",
-        b"table count",
-        b"table count none",
-        b"table 0 start-timeout none",
-        b"load",
-        b"load 65537",
-        b"load x",
-    ];
     match random.below(12) {
         0 => b"load 0 1 2 3 x".to_vec(),
-        1 => {
-            let mut line = b"load 0".to_vec();
-            for _ in 0..71 {
-                line.extend_from_slice(b" 0");
-            }
-            line
-        }
+        1 => format!("load 0{}", " 0".repeat(71)).into_bytes(),
         2 => (0..random.below(8)).map(|_| *random.pick(b"0123 nextrus%|!\r\xff")).collect(),
-        _ => random.pick(&LINES).to_vec(),
+        _ => random.pick(&ODD_LINES).to_vec(),
     }
 }
 
@@ -249,7 +245,8 @@ pub fn odd_case(random: &mut Random) -> Vec<u8> {
             builder.push(&call);
         }
         if random.one_in(8) {
-            builder.push(*random.pick(&["state", "show", "load 65536", "load 0"]));
+            let line = *random.pick(&["state", "show", "load 65536", "load 0"]);
+            builder.push(line);
         }
     }
     let mut scenario = builder.scenario;

@@ -2,8 +2,9 @@
 //! limit, loaded with their own positions and room and with others.
 
 use super::builder::{kept_whole, Builder};
+use super::damage::{change_a_byte, damage};
 use super::sketch::{set_size, sketch_set, Manner};
-use super::texts::{change_a_byte, damage, filled_to, ornate_text, plain_text, Given};
+use super::texts::{filled_to, ornate_text, plain_text, Given};
 use crate::random::Random;
 
 /// The numbers that damage to a set can bring about, those with many forms more

@@ -96,11 +96,12 @@ fn sketch_settings(random: &mut Random, manner: Manner) -> Vec<Setting> {
         settings.push(command(random, "stop-command"));
     }
     if random.one_in(2) {
-        settings
-            .push(Setting::word("restart", *random.pick(&["yes", "true", "yes", "no", "false"])));
+        let word = *random.pick(&["yes", "true", "yes", "no", "false"]);
+        settings.push(Setting::word("restart", word));
     }
     if random.one_in(8) {
-        settings.push(Setting::word("smooth-recovery", *random.pick(&["no", "false"])));
+        let word = *random.pick(&["no", "false"]);
+        settings.push(Setting::word("smooth-recovery", word));
     }
     for property in ["restart-delay", "restart-limit-interval", "start-timeout", "stop-timeout"] {
         if random.one_in(2) {
@@ -114,8 +115,8 @@ fn sketch_settings(random: &mut Random, manner: Manner) -> Vec<Setting> {
         }
     }
     if random.one_in(2) {
-        let counts = ["0", "1", "2", "3", "00001", "65535"];
-        settings.push(Setting::word("restart-limit-count", *random.pick(&counts)));
+        let count = *random.pick(&["0", "1", "2", "3", "00001", "65535"]);
+        settings.push(Setting::word("restart-limit-count", count));
     }
     if random.one_in(3) {
         let signal = *random.pick(&Signal::ALL);
@@ -197,15 +198,19 @@ fn add_dependencies(random: &mut Random, sketches: &mut [Sketch]) {
             let near = later - earlier <= 2;
             if count < 16 && (random.one_in(1 + density) || (near && random.one_in(2))) {
                 let name = sketches[order[earlier]].name.clone();
-                let kind = match random.below(4) {
-                    0 => Kind::DependsMs,
-                    1 => Kind::WaitsFor,
-                    _ => Kind::DependsOn,
-                };
-                let setting = Setting { property: kind.word(), tokens: vec![name] };
+                let setting = Setting { property: often_hard(random).word(), tokens: vec![name] };
                 sketches[order[later]].settings.push(setting);
                 count += 1;
             }
         }
+    }
+}
+
+/// A kind of dependency, every second time the hard one.
+fn often_hard(random: &mut Random) -> Kind {
+    match random.below(4) {
+        0 => Kind::DependsMs,
+        1 => Kind::WaitsFor,
+        _ => Kind::DependsOn,
     }
 }

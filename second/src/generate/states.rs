@@ -100,14 +100,10 @@ fn put_dependencies(random: &mut Random, builder: &mut Builder, count: u64) {
     let upward = random.one_in(2);
     let density = random.between(1, 4);
     for service in 0..count {
+        let others = if upward { service + 1..count } else { 0..service };
         for kind in Kind::ALL {
-            let mut number = 0u64;
-            for other in 0..count {
-                let allowed = if upward { other > service } else { other < service };
-                if allowed && random.one_in(1 + density) {
-                    number += 2u64.pow(other as u32);
-                }
-            }
+            let members = others.clone().filter(|_| random.one_in(1 + density));
+            let number: u64 = members.map(|other| 2u64.pow(other as u32)).sum();
             builder.push(&format!("table {service} {} {number}", kind.word()));
         }
     }
@@ -228,27 +224,31 @@ fn touch_a_clause(random: &mut Random, builder: &mut Builder, services: usize) -
         10 | 18 | 19 => set("live", if record.live { "0" } else { "1" }.to_string()),
         11 | 20 => set("cause", random.pick(&Cause::ALL).word().to_string()),
         12 | 13 | 21 => set("phase", random.pick(&Phase::ALL).word().to_string()),
-        14 => {
-            // A record past the last service isn't read.
-            let place = random.between(count.min(31), 31);
-            builder.push(&format!("set {place} live 1"));
-            builder.push(&format!("set {place} deadline {}", u64::MAX));
-            vec![format!("set {place} live 0"), format!("set {place} deadline none")]
-        }
-        _ => {
-            // A place past the last service isn't read.
-            let place = random.between(count.min(31), 31);
-            if place < count {
-                return Vec::new();
-            }
-            builder.push(&format!("table {place} depends-on {}", random.number()));
-            builder.push(&format!("table {place} stop-timeout {}", u64::MAX));
-            vec![
-                format!("table {place} depends-on 0"),
-                format!("table {place} stop-timeout 100000"),
-            ]
-        }
+        14 => put_unread_record(random, builder, count),
+        _ => put_unread_place(random, builder, count),
     }
+}
+
+/// A record past the last service isn't read.
+fn put_unread_record(random: &mut Random, builder: &mut Builder, count: u64) -> Vec<String> {
+    let place = random.between(count.min(31), 31);
+    builder.push(&format!("set {place} live 1"));
+    builder.push(&format!("set {place} deadline {}", u64::MAX));
+    vec![format!("set {place} live 0"), format!("set {place} deadline none")]
+}
+
+/// A place of the table past the last service isn't read.
+fn put_unread_place(random: &mut Random, builder: &mut Builder, count: u64) -> Vec<String> {
+    let place = random.between(count.min(31), 31);
+    if place < count {
+        return Vec::new();
+    }
+    builder.push(&format!("table {place} depends-on {}", random.number()));
+    builder.push(&format!("table {place} stop-timeout {}", u64::MAX));
+    vec![
+        format!("table {place} depends-on 0"),
+        format!("table {place} stop-timeout {DEFAULT_STOP_TIMEOUT}"),
+    ]
 }
 
 fn at_or_past(random: &mut Random, bound: u64) -> String {
