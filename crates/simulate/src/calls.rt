@@ -1,15 +1,18 @@
-// The calls: table and state are read from their numbers, and the state that a call gives back is written to them.
-use crate::answers::ReplyLine;
+// The calls that lines ask for; each puts its answer into the output, and answers the place after it.
 use crate::answers::event_reply;
-use crate::answers::keep_reply;
 use crate::answers::next_reply;
 use crate::answers::query_reply;
-use crate::answers::run_reply;
+use crate::answers::refused_reply;
+use crate::output::Output;
+use crate::writing::put_reply;
+use crate::writing::put_run;
 use encoding::Numbers;
-use encoding::read_state;
-use encoding::read_table;
-use encoding::write_state;
-use scenario::CLOCK;
+use numbered::Event;
+use numbered::Run;
+use numbered::next_action;
+use numbered::query;
+use numbered::run_to_quiet;
+use numbered::tell;
 use scenario::Command;
 use scenario::END;
 use scenario::NEXT;
@@ -19,70 +22,62 @@ use scenario::RUN_IN;
 use scenario::START;
 use scenario::STOP;
 use scenario::STOP_ALL;
-use service::Changed;
-use service::Ran;
-use service::State;
-use service::Stepped;
-use service::Table;
 
-// What a run is lent, for the services or for the actions.
-pub(crate) type Places = [u64; 256];
-
-// What an event does, and its answer.
-fn event(t: Table, x: State, command: Command) -> Changed {
+fn event_of(command: Command) -> Event {
     let verb = command.verb;
     let n = command.first;
     let s = n as usize;
-    let good = command.last == 1;
     match verb {
-        START => engine::start(t, x, s),
-        STOP => engine::stop(t, x, s),
-        STOP_ALL => engine::stop_all(t, x),
-        END => engine::end(t, x, s, good),
-        _ => engine::clock(t, x, n),
+        START => Event::Start(s),
+        STOP => Event::Stop(s),
+        STOP_ALL => Event::StopAll,
+        END => Event::End(s, command.last == 1),
+        _ => Event::Clock(n),
     }
 }
 
-fn keep_event(changed: Changed, state: &mut Numbers, reply: &mut ReplyLine) {
-    let answer = changed.answer;
-    write_state(state, changed.state);
-    keep_reply(reply, event_reply(answer));
+fn call_event(
+    out: &mut Output,
+    at: usize,
+    texts: &[u8],
+    table: &Numbers,
+    state: &mut Numbers,
+    command: Command,
+) -> usize {
+    let refusal = tell(table, state, event_of(command));
+    put_reply(out, at, texts, event_reply(refusal))
 }
 
-fn call_event(table: &Numbers, state: &mut Numbers, command: Command, reply: &mut ReplyLine) {
-    let changed = event(read_table(table), read_state(state), command);
-    keep_event(changed, state, reply);
+fn call_next(
+    out: &mut Output,
+    at: usize,
+    texts: &[u8],
+    table: &Numbers,
+    state: &mut Numbers,
+) -> usize {
+    let next = next_action(table, state);
+    put_reply(out, at, texts, next_reply(next))
 }
 
-fn keep_next(stepped: Stepped, state: &mut Numbers, reply: &mut ReplyLine) {
-    let answer = stepped.answer;
-    write_state(state, stepped.state);
-    keep_reply(reply, next_reply(answer));
-}
-
-fn call_next(table: &Numbers, state: &mut Numbers, reply: &mut ReplyLine) {
-    let stepped = engine::next_action(read_table(table), read_state(state));
-    keep_next(stepped, state, reply);
-}
-
-fn run_to_quiet(
+fn call_query(
+    out: &mut Output,
+    at: usize,
+    texts: &[u8],
     table: &Numbers,
     state: &Numbers,
-    services: &mut [u64],
-    actions: &mut [u64],
-) -> Ran {
-    engine::run_to_quiet(read_table(table), read_state(state), services, actions)
+) -> usize {
+    put_reply(out, at, texts, query_reply(query(table, state)))
 }
 
 // A run that is lent so many of the places.
 fn run_in(
     table: &Numbers,
-    state: &Numbers,
+    state: &mut Numbers,
     a: usize,
     b: usize,
     services: &mut [u64],
     actions: &mut [u64],
-) -> Ran {
+) -> Run {
     if a <= services.len() {
         if b <= actions.len() {
             return run_to_quiet(table, state, &mut services[0..a], &mut actions[0..b]);
@@ -99,46 +94,51 @@ fn lent_places(verb: usize, n: u64) -> usize {
     n as usize
 }
 
-fn keep_run(ran: Ran, state: &mut Numbers, reply: &mut ReplyLine) {
-    let answer = ran.answer;
-    write_state(state, ran.state);
-    keep_reply(reply, run_reply(answer));
+// Puts the answer to a run.
+fn put_ran(
+    out: &mut Output,
+    at: usize,
+    texts: &[u8],
+    run: Run,
+    services: &[u64],
+    actions: &[u64],
+) -> usize {
+    if run.refusal == 0 {
+        return put_run(out, at, texts, run.count, services, actions);
+    }
+    put_reply(out, at, texts, refused_reply(run.refusal))
 }
 
 fn call_run(
+    out: &mut Output,
+    at: usize,
+    texts: &[u8],
     table: &Numbers,
     state: &mut Numbers,
     command: Command,
-    reply: &mut ReplyLine,
-    services: &mut Places,
-    actions: &mut Places,
-) {
+) -> usize {
+    let mut services = [0u64; 256];
+    let mut actions = [0u64; 256];
     let a = lent_places(command.verb, command.first);
     let b = lent_places(command.verb, command.last);
-    let ran = run_in(table, state, a, b, services, actions);
-    keep_run(ran, state, reply);
+    let run = run_in(table, state, a, b, &mut services, &mut actions);
+    put_ran(out, at, texts, run, &services, &actions)
 }
 
-fn call_query(table: &Numbers, state: &Numbers, reply: &mut ReplyLine) {
-    let answer = engine::query(read_table(table), read_state(state));
-    keep_reply(reply, query_reply(answer));
-}
-
-// Makes the call of a line, where it is one, and keeps its answer.
+// Makes the call of a line.
 pub(crate) fn call(
+    out: &mut Output,
+    at: usize,
+    texts: &[u8],
     table: &Numbers,
     state: &mut Numbers,
     command: Command,
-    reply: &mut ReplyLine,
-    services: &mut Places,
-    actions: &mut Places,
-) {
+) -> usize {
     let verb = command.verb;
     match verb {
-        NEXT => call_next(table, state, reply),
-        RUN | RUN_IN => call_run(table, state, command, reply, services, actions),
-        QUERY => call_query(table, state, reply),
-        START..=CLOCK => call_event(table, state, command, reply),
-        _ => {}
+        NEXT => call_next(out, at, texts, table, state),
+        RUN | RUN_IN => call_run(out, at, texts, table, state, command),
+        QUERY => call_query(out, at, texts, table, state),
+        _ => call_event(out, at, texts, table, state, command),
     }
 }

@@ -3,7 +3,6 @@ use crate::filling::number_at;
 use crate::filling::put_line;
 use crate::filling::put_numbered;
 use crate::filling::put_text;
-use crate::loading::Counts;
 use crate::output::Output;
 use crate::output::put;
 use crate::output::put_bytes;
@@ -20,6 +19,7 @@ use crate::texts::TOKENS;
 use encoding::EACH;
 use encoding::Numbers;
 use lent::name_at;
+use numbered::Counts;
 use service::MAX_SERVICES;
 use text::part;
 
@@ -55,14 +55,14 @@ pub(crate) fn put_services(
     at: usize,
     texts: &[u8],
     table: &Numbers,
-    count: usize,
+    count: u64,
     lent: &[u8],
     positions: &[usize],
 ) -> usize {
     let mut to = at;
     let mut s: usize = 0;
     while s < MAX_SERVICES {
-        if count <= s {
+        if count <= s as u64 {
             break;
         }
         let kind = number_at(table, 1 + EACH * s);
@@ -93,12 +93,12 @@ fn put_all_settings(
     texts: &[u8],
     table: &Numbers,
     counts: &Counts,
-    count: usize,
+    count: u64,
 ) -> usize {
     let mut to = at;
     let mut s: usize = 0;
     while s < MAX_SERVICES {
-        if count <= s {
+        if count <= s as u64 {
             break;
         }
         let settings = range(table, 1 + EACH * s, EACH);
@@ -154,7 +154,7 @@ pub(crate) fn put_table(
     texts: &[u8],
     table: &Numbers,
     counts: &Counts,
-    count: usize,
+    count: u64,
     tokens: &[u8],
 ) -> usize {
     let to = put_all_settings(out, at, texts, table, counts, count);

@@ -1,51 +1,33 @@
 // A load: the services given so far are lent to the loader, and what it gives is kept in numbers.
-use crate::answers::ReplyLine;
-use crate::answers::keep_reply;
 use crate::answers::load_reply;
 use crate::given::Buffer;
 use crate::given::Given;
 use crate::given::Positions;
 use crate::given::own_end;
+use crate::listing::put_services;
+use crate::output::Output;
+use crate::writing::put_reply;
 use encoding::Numbers;
-use encoding::write_state;
-use encoding::write_table;
-use lent::Answer;
-use loader::Loaded;
+use numbered::Counts;
+use numbered::LoadNumbers;
+use numbered::load;
 use scenario::Command;
 use scenario::LOAD;
 use scenario::LOAD_AT;
-use scenario::LOAD_NONE;
 use scenario::MOST_POSITIONS;
-use service::MAX_SERVICES;
-use storing::Commands;
 use text::part;
 use words::number;
 use words::piece;
 
 pub(crate) type TokenBuffer = [u8; 65536];
 
-// How many tokens each command has, command before stop-command, service by service.
-pub(crate) type Counts = [u64; 64];
-
-// Whether a set is loaded, and how many services it has.
-pub(crate) struct Loading {
-    pub(crate) good: bool,
-    pub(crate) count: usize,
-}
-
-pub(crate) fn is_load(verb: usize) -> bool {
-    (verb == LOAD) | (verb == LOAD_NONE) | (verb == LOAD_AT)
-}
-
-fn is_accepted(answer: Answer) -> bool {
-    match answer {
-        Answer::Accepted => true,
-        Answer::Refused {
-            number: _,
-            service: _,
-            line: _,
-        } => false,
-    }
+// Where a scenario has come to: what was given, whether a set is loaded and how many services it has, and the place in
+// the output.
+pub(crate) struct Stand {
+    pub(crate) given: Given,
+    pub(crate) loaded: bool,
+    pub(crate) count: u64,
+    pub(crate) to: usize,
 }
 
 fn put_position(positions: &mut Positions, i: usize, position: u64) {
@@ -77,7 +59,7 @@ fn range(positions: &[usize], from: usize, end: usize) -> &[usize] {
 }
 
 // The positions that a load lends: those of the line, or the services' own.
-pub(crate) fn lent_positions(positions: &Positions, command: Command, begun: usize) -> &[usize] {
+fn lent_positions(positions: &Positions, command: Command, begun: usize) -> &[usize] {
     let verb = command.verb;
     match verb {
         LOAD => range(positions, MOST_POSITIONS, own_end(begun)),
@@ -87,53 +69,24 @@ pub(crate) fn lent_positions(positions: &Positions, command: Command, begun: usi
 }
 
 // Loads with a token buffer of so many bytes.
-fn load_in(lent: &[u8], positions: &[usize], room: u64, tokens: &mut [u8]) -> Loaded {
+fn load_in(
+    lent: &[u8],
+    ends: &[usize],
+    room: u64,
+    tokens: &mut [u8],
+    table: &mut Numbers,
+    state: &mut Numbers,
+    counts: &mut Counts,
+) -> LoadNumbers {
     let most = room as usize;
     if most <= tokens.len() {
-        return loader::load(lent, positions, &mut tokens[0..most]);
+        return load(lent, ends, &mut tokens[0..most], table, state, counts);
     }
-    loader::load(lent, positions, tokens)
+    load(lent, ends, tokens, table, state, counts)
 }
 
-fn put_counts(counts: &mut Counts, s: usize, c: Commands) {
-    let start = c.start;
-    let stop = c.stop;
-    if s < MAX_SERVICES {
-        counts[2 * s] = start.count as u64;
-        counts[2 * s + 1] = stop.count as u64;
-    }
-}
-
-fn keep_counts(counts: &mut Counts, commands: [Commands; MAX_SERVICES]) {
-    let mut s: usize = 0;
-    while s < MAX_SERVICES {
-        put_counts(counts, s, commands[s]);
-        s += 1;
-    }
-}
-
-// Keeps what a load gave.
-fn keep_loaded(
-    loaded: Loaded,
-    table: &mut Numbers,
-    counts: &mut Counts,
-    reply: &mut ReplyLine,
-) -> Loading {
-    let answer = loaded.answer;
-    let t = loaded.table;
-    let commands = loaded.commands;
-    let count = t.count;
-    write_table(table, t);
-    keep_counts(counts, commands);
-    keep_reply(reply, load_reply(answer, count));
-    Loading {
-        good: is_accepted(answer),
-        count,
-    }
-}
-
-// Loads the services given so far, and begins with the fresh state.
-fn load(
+// Loads the services given so far.
+fn load_given(
     command: Command,
     given: Given,
     buffer: &Buffer,
@@ -142,48 +95,78 @@ fn load(
     table: &mut Numbers,
     state: &mut Numbers,
     counts: &mut Counts,
-    reply: &mut ReplyLine,
-) -> Loading {
+) -> LoadNumbers {
     let lent = part(buffer, 0, given.bytes);
     let ends = lent_positions(positions, command, given.begun);
-    write_state(state, engine::fresh());
-    keep_loaded(
-        load_in(lent, ends, command.first, tokens),
-        table,
-        counts,
-        reply,
-    )
+    load_in(lent, ends, command.first, tokens, table, state, counts)
 }
 
-// What is loaded after a line.
-pub(crate) fn loaded_after(
-    loaded: Loading,
+// Takes the positions of a line that gives them.
+fn take_positions(command: Command, line: &[u8], positions: &mut Positions) {
+    if command.verb == LOAD_AT {
+        read_positions(line, command.last as usize, positions);
+    }
+}
+
+// Puts the loaded services, none where the load was refused, and the answer.
+fn put_loaded(
+    out: &mut Output,
+    at: usize,
+    texts: &[u8],
+    load: LoadNumbers,
+    command: Command,
+    given: Given,
+    buffer: &Buffer,
+    positions: &Positions,
+    table: &Numbers,
+) -> usize {
+    let lent = part(buffer, 0, given.bytes);
+    let ends = lent_positions(positions, command, given.begun);
+    let to = put_services(out, at, texts, table, load.count, lent, ends);
+    put_reply(out, to, texts, load_reply(load))
+}
+
+// Loads what was given so far, in the way of a line, and puts the answer.
+pub(crate) fn load_line(
+    stand: Stand,
     command: Command,
     line: &[u8],
-    given: Given,
+    texts: &[u8],
     buffer: &Buffer,
     positions: &mut Positions,
     tokens: &mut TokenBuffer,
     table: &mut Numbers,
     state: &mut Numbers,
     counts: &mut Counts,
-    reply: &mut ReplyLine,
-) -> Loading {
-    if is_load(command.verb) {
-        if command.verb == LOAD_AT {
-            read_positions(line, command.last as usize, positions);
-        }
-        return load(
-            command,
-            given,
-            buffer,
-            positions,
-            tokens,
-            table,
-            state,
-            counts,
-            reply,
-        );
+    out: &mut Output,
+) -> Stand {
+    let given = stand.given;
+    take_positions(command, line, positions);
+    let load = load_given(
+        command,
+        given,
+        buffer,
+        positions,
+        tokens,
+        table,
+        state,
+        counts,
+    );
+    let to = put_loaded(
+        out,
+        stand.to,
+        texts,
+        load,
+        command,
+        given,
+        buffer,
+        positions,
+        table,
+    );
+    Stand {
+        given,
+        loaded: load.number == 0,
+        count: load.count,
+        to,
     }
-    loaded
 }

@@ -10,31 +10,43 @@ mod setting;
 mod texts;
 mod writing;
 
-use answers::ReplyLine;
-use answers::keep_reply;
-use answers::line_reply;
-use calls::Places;
+use answers::bad_reply;
+use answers::ok_reply;
 use calls::call;
 use encoding::Numbers;
+use filling::number_at;
 use given::Buffer;
 use given::Given;
 use given::Positions;
 use given::given_after;
 use libc::STDIN_FILENO;
-use loading::Counts;
-use loading::Loading;
+use listing::put_state;
+use listing::put_table;
+use loading::Stand;
 use loading::TokenBuffer;
-use loading::loaded_after;
+use loading::load_line;
+use numbered::Counts;
 use output::Output;
 use output::write_rest;
+use scenario::ADD_LINE;
+use scenario::ADD_PIECE;
+use scenario::BAD;
+use scenario::BEGIN;
 use scenario::Command;
+use scenario::LOAD;
+use scenario::LOAD_AT;
+use scenario::LOAD_NONE;
+use scenario::NOTHING;
+use scenario::SET_CLOCK;
+use scenario::SET_TABLE_LAST;
+use scenario::SHOW;
+use scenario::STATE;
 use scenario::read_line;
 use setting::set;
 use text::line_end;
 use text::part;
 use texts::TEXTS;
-use writing::put_answer;
-use writing::put_lists;
+use writing::put_reply;
 ghost use Prim.Native.Nat.{_<_, _≤_};
 ghost use lib.ListN.{length};
 
@@ -66,40 +78,122 @@ fn bare(line: &[u8]) -> &[u8] {
     part(line, 0, line_end(line, 0))
 }
 
-// Does what a line of this number asks for, keeps its answer, and answers what is loaded then.
-fn obey(
-    command: Command,
+// What a line asks for, where a scenario has come to.
+fn command_of(stand: Stand, line: &[u8]) -> Command {
+    let given = stand.given;
+    read_line(line, 0 < given.begun, stand.loaded)
+}
+
+// Takes what a line gives.
+fn give(
+    stand: Stand,
+    verb: usize,
     line: &[u8],
+    buffer: &mut Buffer,
+    positions: &mut Positions,
+) -> Stand {
+    let given = given_after(stand.given, verb, line, buffer, positions);
+    Stand {
+        given,
+        loaded: stand.loaded,
+        count: stand.count,
+        to: stand.to,
+    }
+}
+
+fn set_line(
+    out: &mut Output,
+    at: usize,
+    texts: &[u8],
+    table: &mut Numbers,
+    state: &mut Numbers,
+    command: Command,
+) -> usize {
+    set(table, state, command);
+    put_reply(out, at, texts, ok_reply())
+}
+
+// Obeys a line that gives and loads nothing, and puts its answer.
+fn tell_line(
+    out: &mut Output,
+    at: usize,
+    texts: &[u8],
     number: u64,
-    given: Given,
-    loaded: Loading,
-    buffer: &Buffer,
+    command: Command,
+    count: u64,
+    tokens: &TokenBuffer,
+    table: &mut Numbers,
+    state: &mut Numbers,
+    counts: &Counts,
+) -> usize {
+    let verb = command.verb;
+    match verb {
+        SHOW => put_table(out, at, texts, table, counts, count, tokens),
+        STATE => put_state(out, at, texts, state, number_at(table, 0)),
+        BAD => put_reply(out, at, texts, bad_reply(number)),
+        SET_CLOCK..=SET_TABLE_LAST => set_line(out, at, texts, table, state, command),
+        _ => call(out, at, texts, table, state, command),
+    }
+}
+
+fn told(stand: Stand, to: usize) -> Stand {
+    let given = stand.given;
+    Stand {
+        given,
+        loaded: stand.loaded,
+        count: stand.count,
+        to,
+    }
+}
+
+// Obeys a line of this number, which is lent with its newline.
+fn obey(
+    stand: Stand,
+    number: u64,
+    line: &[u8],
+    texts: &[u8],
+    buffer: &mut Buffer,
     positions: &mut Positions,
     tokens: &mut TokenBuffer,
     table: &mut Numbers,
     state: &mut Numbers,
     counts: &mut Counts,
-    reply: &mut ReplyLine,
-    services: &mut Places,
-    actions: &mut Places,
-) -> Loading {
-    keep_reply(reply, line_reply(command.verb, number));
-    let after = loaded_after(
-        loaded,
-        command,
-        line,
-        given,
-        buffer,
-        positions,
-        tokens,
-        table,
-        state,
-        counts,
-        reply,
-    );
-    set(table, state, command);
-    call(table, state, command, reply, services, actions);
-    after
+    out: &mut Output,
+) -> Stand {
+    let command = command_of(stand, bare(line));
+    let verb = command.verb;
+    match verb {
+        NOTHING => stand,
+        BEGIN | ADD_LINE | ADD_PIECE => give(stand, verb, line, buffer, positions),
+        LOAD | LOAD_NONE | LOAD_AT => load_line(
+            stand,
+            command,
+            bare(line),
+            texts,
+            buffer,
+            positions,
+            tokens,
+            table,
+            state,
+            counts,
+            out,
+        ),
+        _ => {
+            let to = tell_line(
+                out,
+                stand.to,
+                texts,
+                number,
+                command,
+                stand.count,
+                tokens,
+                table,
+                state,
+                counts,
+            );
+            told(stand, to)
+        }
+    }
 }
 
 // Obeys each line of the scenario in turn, and answers the place in the output.
@@ -112,63 +206,39 @@ fn obey_all(
     table: &mut Numbers,
     state: &mut Numbers,
     counts: &mut Counts,
-    reply: &mut ReplyLine,
-    services: &mut Places,
-    actions: &mut Places,
     out: &mut Output,
 ) -> usize {
-    let mut given = Given {
-        begun: 0,
-        bytes: 0,
-        text: 0,
-    };
-    let mut loaded = Loading {
-        good: false,
+    let mut stand = Stand {
+        given: Given {
+            begun: 0,
+            bytes: 0,
+            text: 0,
+        },
+        loaded: false,
         count: 0,
+        to: 0,
     };
-    let mut to: usize = 0;
     let mut lines: u64 = 0;
     let mut at: usize = 0;
     while at < scenario.len() {
-        lines = one_more(lines);
         let next = line_after(scenario, at);
-        let line = part(scenario, at, next);
-        let command = read_line(bare(line), 0 < given.begun, loaded.good);
-        given = given_after(given, command.verb, line, buffer, positions);
-        loaded = obey(
-            command,
-            bare(line),
+        lines = one_more(lines);
+        stand = obey(
+            stand,
             lines,
-            given,
-            loaded,
-            buffer,
-            positions,
-            tokens,
-            table,
-            state,
-            counts,
-            reply,
-            services,
-            actions,
-        );
-        to = put_lists(
-            out,
-            to,
+            part(scenario, at, next),
             texts,
-            command,
-            given,
-            loaded,
             buffer,
             positions,
             tokens,
             table,
             state,
             counts,
+            out,
         );
-        to = put_answer(out, to, texts, reply, services, actions);
         at = next;
     }
-    to
+    stand.to
 }
 
 // Puts a newline after what was read, and answers the place after it.
@@ -189,19 +259,16 @@ fn read_scenario(input: &mut [u8]) -> usize {
     0
 }
 
-// The answers to a scenario, written out as far as the buffer was filled; answers the place in it.
-fn play(scenario: &[u8], out: &mut Output) -> usize {
+// Plays a scenario with these texts, and answers the place in the output.
+fn play_in(texts: &[u8], scenario: &[u8], out: &mut Output) -> usize {
     let mut buffer = [0u8; 136290];
     let mut positions = [0usize; 136];
     let mut tokens = io::large_buffer();
     let mut table = [0u64; 385];
     let mut state = [0u64; 385];
     let mut counts = [0u64; 64];
-    let mut reply = [0u64; 4];
-    let mut services = [0u64; 256];
-    let mut actions = [0u64; 256];
     obey_all(
-        &TEXTS,
+        texts,
         scenario,
         &mut buffer,
         &mut positions,
@@ -209,11 +276,12 @@ fn play(scenario: &[u8], out: &mut Output) -> usize {
         &mut table,
         &mut state,
         &mut counts,
-        &mut reply,
-        &mut services,
-        &mut actions,
         out,
     )
+}
+
+fn play(scenario: &[u8], out: &mut Output) -> usize {
+    play_in(&TEXTS, scenario, out)
 }
 
 fn run(input: &mut [u8], out: &mut Output) {

@@ -1,4 +1,4 @@
--- `put_actions` is safe and ends: it counts up to the number of actions.
+-- `put_actions` is safe and ends: what is left of the actions falls.
 use borrow.Author.Needs.{needs}
 use Prim.Native.Nat.{_-_, _≤_}
 use Rattle.simulate.proofs.writing.put_actions.Statement.{statement}
