@@ -39,34 +39,31 @@ fn event_of(command: Command) -> Event {
 fn call_event(
     out: &mut Output,
     at: usize,
-    texts: &[u8],
     table: &Numbers,
     state: &mut Numbers,
     command: Command,
 ) -> usize {
     let refusal = tell(table, state, event_of(command));
-    put_reply(out, at, texts, event_reply(refusal))
+    put_reply(out, at, event_reply(refusal))
 }
 
 fn call_next(
     out: &mut Output,
     at: usize,
-    texts: &[u8],
     table: &Numbers,
     state: &mut Numbers,
 ) -> usize {
     let next = next_action(table, state);
-    put_reply(out, at, texts, next_reply(next))
+    put_reply(out, at, next_reply(next))
 }
 
 fn call_query(
     out: &mut Output,
     at: usize,
-    texts: &[u8],
     table: &Numbers,
     state: &Numbers,
 ) -> usize {
-    put_reply(out, at, texts, query_reply(query(table, state)))
+    put_reply(out, at, query_reply(query(table, state)))
 }
 
 // A run that is lent so many of the places.
@@ -98,21 +95,19 @@ fn lent_places(verb: usize, n: u64) -> usize {
 fn put_ran(
     out: &mut Output,
     at: usize,
-    texts: &[u8],
     run: Run,
     services: &[u64],
     actions: &[u64],
 ) -> usize {
     if run.refusal == 0 {
-        return put_run(out, at, texts, run.count, services, actions);
+        return put_run(out, at, run.count, services, actions);
     }
-    put_reply(out, at, texts, refused_reply(run.refusal))
+    put_reply(out, at, refused_reply(run.refusal))
 }
 
 fn call_run(
     out: &mut Output,
     at: usize,
-    texts: &[u8],
     table: &Numbers,
     state: &mut Numbers,
     command: Command,
@@ -122,23 +117,22 @@ fn call_run(
     let a = lent_places(command.verb, command.first);
     let b = lent_places(command.verb, command.last);
     let run = run_in(table, state, a, b, &mut services, &mut actions);
-    put_ran(out, at, texts, run, &services, &actions)
+    put_ran(out, at, run, &services, &actions)
 }
 
 // Makes the call of a line.
 pub(crate) fn call(
     out: &mut Output,
     at: usize,
-    texts: &[u8],
     table: &Numbers,
     state: &mut Numbers,
     command: Command,
 ) -> usize {
     let verb = command.verb;
     match verb {
-        NEXT => call_next(out, at, texts, table, state),
-        RUN | RUN_IN => call_run(out, at, texts, table, state, command),
-        QUERY => call_query(out, at, texts, table, state),
-        _ => call_event(out, at, texts, table, state, command),
+        NEXT => call_next(out, at, table, state),
+        RUN | RUN_IN => call_run(out, at, table, state, command),
+        QUERY => call_query(out, at, table, state),
+        _ => call_event(out, at, table, state, command),
     }
 }

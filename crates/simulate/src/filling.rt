@@ -9,6 +9,7 @@ use crate::texts::KINDS;
 use crate::texts::PHASES;
 use crate::texts::RESTARTS;
 use crate::texts::SIGNALS;
+use crate::texts::TEXTS;
 use words::piece;
 
 fn is_mark(byte: u8) -> bool {
@@ -64,26 +65,24 @@ fn put_marked(out: &mut Output, at: usize, texts: &[u8], text: &[u8], numbers: &
     to
 }
 
-// Puts a text of the format, by its place, with the numbers of its marks.
-pub(crate) fn put_text(
-    out: &mut Output,
-    at: usize,
-    texts: &[u8],
-    text: usize,
-    numbers: &[u64],
-) -> usize {
+fn put_text_of(out: &mut Output, at: usize, texts: &[u8], text: usize, numbers: &[u64]) -> usize {
     put_marked(out, at, texts, piece(texts, b'\n', text), numbers)
+}
+
+// Puts a text by its place, with the numbers of its marks. The texts are lent here and only here: a constant is spelled out
+// at each point of a function that names it, which makes such a function dear to check.
+pub(crate) fn put_text(out: &mut Output, at: usize, text: usize, numbers: &[u64]) -> usize {
+    put_text_of(out, at, &TEXTS, text, numbers)
 }
 
 // The same as a line.
 pub(crate) fn put_line(
     out: &mut Output,
     at: usize,
-    texts: &[u8],
     text: usize,
     numbers: &[u64],
 ) -> usize {
-    let to = put_text(out, at, texts, text, numbers);
+    let to = put_text(out, at, text, numbers);
     put(out, to, b'\n')
 }
 
@@ -91,10 +90,9 @@ pub(crate) fn put_line(
 pub(crate) fn put_numbered(
     out: &mut Output,
     at: usize,
-    texts: &[u8],
     text: usize,
     n: u64,
 ) -> usize {
     let numbers = [n];
-    put_text(out, at, texts, text, &numbers)
+    put_text(out, at, text, &numbers)
 }

@@ -38,14 +38,13 @@ fn range(numbers: &[u64], from: usize, count: usize) -> &[u64] {
 fn put_service(
     out: &mut Output,
     at: usize,
-    texts: &[u8],
     s: usize,
     name: &[u8],
     kind: u64,
 ) -> usize {
-    let opened = put_numbered(out, at, texts, SERVICE_HEAD, s as u64);
+    let opened = put_numbered(out, at, SERVICE_HEAD, s as u64);
     let named = put_bytes(out, opened, name);
-    let typed = put_numbered(out, named, texts, SERVICE_TAIL, kind);
+    let typed = put_numbered(out, named, SERVICE_TAIL, kind);
     put(out, typed, b'\n')
 }
 
@@ -53,7 +52,6 @@ fn put_service(
 pub(crate) fn put_services(
     out: &mut Output,
     at: usize,
-    texts: &[u8],
     table: &Numbers,
     count: u64,
     lent: &[u8],
@@ -66,7 +64,7 @@ pub(crate) fn put_services(
             break;
         }
         let kind = number_at(table, 1 + EACH * s);
-        to = put_service(out, to, texts, s, name_at(lent, positions, s), kind);
+        to = put_service(out, to, s, name_at(lent, positions, s), kind);
         s += 1;
     }
     to
@@ -76,21 +74,19 @@ pub(crate) fn put_services(
 fn put_settings(
     out: &mut Output,
     at: usize,
-    texts: &[u8],
     s: usize,
     settings: &[u64],
     counts: &[u64],
 ) -> usize {
-    let opened = put_numbered(out, at, texts, SERVICE_HEAD, s as u64);
-    let told = put_text(out, opened, texts, SETTINGS, settings);
-    put_line(out, told, texts, COMMANDS, counts)
+    let opened = put_numbered(out, at, SERVICE_HEAD, s as u64);
+    let told = put_text(out, opened, SETTINGS, settings);
+    put_line(out, told, COMMANDS, counts)
 }
 
 // The settings of so many services.
 fn put_all_settings(
     out: &mut Output,
     at: usize,
-    texts: &[u8],
     table: &Numbers,
     counts: &Counts,
     count: u64,
@@ -102,18 +98,18 @@ fn put_all_settings(
             break;
         }
         let settings = range(table, 1 + EACH * s, EACH);
-        to = put_settings(out, to, texts, s, settings, range(counts, 2 * s, 2));
+        to = put_settings(out, to, s, settings, range(counts, 2 * s, 2));
         s += 1;
     }
     to
 }
 
-fn put_tokens(out: &mut Output, at: usize, texts: &[u8], tokens: &[u8]) -> usize {
+fn put_tokens(out: &mut Output, at: usize, tokens: &[u8]) -> usize {
     if tokens.len() == 0 {
-        let to = put_numbered(out, at, texts, NO_TOKENS, 0);
+        let to = put_numbered(out, at, NO_TOKENS, 0);
         return put(out, to, b'\n');
     }
-    let opened = put_numbered(out, at, texts, TOKENS, 0);
+    let opened = put_numbered(out, at, TOKENS, 0);
     let written = put_hex_bytes(out, opened, tokens);
     put(out, written, b'\n')
 }
@@ -151,14 +147,13 @@ fn token_bytes(counts: &Counts, tokens: &[u8]) -> usize {
 pub(crate) fn put_table(
     out: &mut Output,
     at: usize,
-    texts: &[u8],
     table: &Numbers,
     counts: &Counts,
     count: u64,
     tokens: &[u8],
 ) -> usize {
-    let to = put_all_settings(out, at, texts, table, counts, count);
-    put_tokens(out, to, texts, part(tokens, 0, token_bytes(counts, tokens)))
+    let to = put_all_settings(out, at, table, counts, count);
+    put_tokens(out, to, part(tokens, 0, token_bytes(counts, tokens)))
 }
 
 // The text of a record: with a deadline's time, or without one.
@@ -169,26 +164,25 @@ fn record_text(timed: u64) -> usize {
     RECORD_TIMED
 }
 
-fn put_record(out: &mut Output, at: usize, texts: &[u8], s: usize, record: &[u64]) -> usize {
-    let opened = put_numbered(out, at, texts, SERVICE_HEAD, s as u64);
+fn put_record(out: &mut Output, at: usize, s: usize, record: &[u64]) -> usize {
+    let opened = put_numbered(out, at, SERVICE_HEAD, s as u64);
     put_line(
         out,
         opened,
-        texts,
         record_text(number_at(record, 5)),
         record,
     )
 }
 
 // The records of so many services.
-fn put_records(out: &mut Output, at: usize, texts: &[u8], state: &Numbers, count: u64) -> usize {
+fn put_records(out: &mut Output, at: usize, state: &Numbers, count: u64) -> usize {
     let mut to = at;
     let mut s: usize = 0;
     while s < MAX_SERVICES {
         if count <= s as u64 {
             break;
         }
-        to = put_record(out, to, texts, s, range(state, 1 + EACH * s, EACH));
+        to = put_record(out, to, s, range(state, 1 + EACH * s, EACH));
         s += 1;
     }
     to
@@ -198,11 +192,10 @@ fn put_records(out: &mut Output, at: usize, texts: &[u8], state: &Numbers, count
 pub(crate) fn put_state(
     out: &mut Output,
     at: usize,
-    texts: &[u8],
     state: &Numbers,
     count: u64,
 ) -> usize {
-    let told = put_numbered(out, at, texts, CLOCK_LINE, number_at(state, 0));
+    let told = put_numbered(out, at, CLOCK_LINE, number_at(state, 0));
     let to = put(out, told, b'\n');
-    put_records(out, to, texts, state, count)
+    put_records(out, to, state, count)
 }

@@ -112,7 +112,6 @@ fn take_positions(command: Command, line: &[u8], positions: &mut Positions) {
 fn put_loaded(
     out: &mut Output,
     at: usize,
-    texts: &[u8],
     load: LoadNumbers,
     command: Command,
     given: Given,
@@ -122,8 +121,8 @@ fn put_loaded(
 ) -> usize {
     let lent = part(buffer, 0, given.bytes);
     let ends = lent_positions(positions, command, given.begun);
-    let to = put_services(out, at, texts, table, load.count, lent, ends);
-    put_reply(out, to, texts, load_reply(load))
+    let to = put_services(out, at, table, load.count, lent, ends);
+    put_reply(out, to, load_reply(load))
 }
 
 // Loads what was given so far, in the way of a line, and puts the answer.
@@ -131,7 +130,6 @@ pub(crate) fn load_line(
     stand: Stand,
     command: Command,
     line: &[u8],
-    texts: &[u8],
     buffer: &Buffer,
     positions: &mut Positions,
     tokens: &mut TokenBuffer,
@@ -155,7 +153,6 @@ pub(crate) fn load_line(
     let to = put_loaded(
         out,
         stand.to,
-        texts,
         load,
         command,
         given,

@@ -45,7 +45,6 @@ use scenario::read_line;
 use setting::set;
 use text::line_end;
 use text::part;
-use texts::TEXTS;
 use writing::put_reply;
 ghost use Prim.Native.Nat.{_<_, _≤_};
 ghost use lib.ListN.{length};
@@ -104,20 +103,18 @@ fn give(
 fn set_line(
     out: &mut Output,
     at: usize,
-    texts: &[u8],
     table: &mut Numbers,
     state: &mut Numbers,
     command: Command,
 ) -> usize {
     set(table, state, command);
-    put_reply(out, at, texts, ok_reply())
+    put_reply(out, at, ok_reply())
 }
 
 // Obeys a line that gives and loads nothing, and puts its answer.
 fn tell_line(
     out: &mut Output,
     at: usize,
-    texts: &[u8],
     number: u64,
     command: Command,
     count: u64,
@@ -128,11 +125,11 @@ fn tell_line(
 ) -> usize {
     let verb = command.verb;
     match verb {
-        SHOW => put_table(out, at, texts, table, counts, count, tokens),
-        STATE => put_state(out, at, texts, state, number_at(table, 0)),
-        BAD => put_reply(out, at, texts, bad_reply(number)),
-        SET_CLOCK..=SET_TABLE_LAST => set_line(out, at, texts, table, state, command),
-        _ => call(out, at, texts, table, state, command),
+        SHOW => put_table(out, at, table, counts, count, tokens),
+        STATE => put_state(out, at, state, number_at(table, 0)),
+        BAD => put_reply(out, at, bad_reply(number)),
+        SET_CLOCK..=SET_TABLE_LAST => set_line(out, at, table, state, command),
+        _ => call(out, at, table, state, command),
     }
 }
 
@@ -151,7 +148,6 @@ fn obey(
     stand: Stand,
     number: u64,
     line: &[u8],
-    texts: &[u8],
     buffer: &mut Buffer,
     positions: &mut Positions,
     tokens: &mut TokenBuffer,
@@ -169,8 +165,7 @@ fn obey(
             stand,
             command,
             bare(line),
-            texts,
-            buffer,
+                buffer,
             positions,
             tokens,
             table,
@@ -182,8 +177,7 @@ fn obey(
             let to = tell_line(
                 out,
                 stand.to,
-                texts,
-                number,
+                        number,
                 command,
                 stand.count,
                 tokens,
@@ -198,7 +192,6 @@ fn obey(
 
 // Obeys each line of the scenario in turn, and answers the place in the output.
 fn obey_all(
-    texts: &[u8],
     scenario: &[u8],
     buffer: &mut Buffer,
     positions: &mut Positions,
@@ -227,8 +220,7 @@ fn obey_all(
             stand,
             lines,
             part(scenario, at, next),
-            texts,
-            buffer,
+                buffer,
             positions,
             tokens,
             table,
@@ -259,8 +251,8 @@ fn read_scenario(input: &mut [u8]) -> usize {
     0
 }
 
-// Plays a scenario with these texts, and answers the place in the output.
-fn play_in(texts: &[u8], scenario: &[u8], out: &mut Output) -> usize {
+// Plays a scenario, and answers the place in the output.
+fn play(scenario: &[u8], out: &mut Output) -> usize {
     let mut buffer = [0u8; 136290];
     let mut positions = [0usize; 136];
     let mut tokens = io::large_buffer();
@@ -268,7 +260,6 @@ fn play_in(texts: &[u8], scenario: &[u8], out: &mut Output) -> usize {
     let mut state = [0u64; 385];
     let mut counts = [0u64; 64];
     obey_all(
-        texts,
         scenario,
         &mut buffer,
         &mut positions,
@@ -278,10 +269,6 @@ fn play_in(texts: &[u8], scenario: &[u8], out: &mut Output) -> usize {
         &mut counts,
         out,
     )
-}
-
-fn play(scenario: &[u8], out: &mut Output) -> usize {
-    play_in(&TEXTS, scenario, out)
 }
 
 fn run(input: &mut [u8], out: &mut Output) {

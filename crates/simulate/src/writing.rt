@@ -10,14 +10,14 @@ use crate::output::Output;
 use crate::output::put;
 use crate::texts::RUN_COUNT;
 
-pub(crate) fn put_reply(out: &mut Output, at: usize, texts: &[u8], reply: Reply) -> usize {
+pub(crate) fn put_reply(out: &mut Output, at: usize, reply: Reply) -> usize {
     let numbers = [reply.first, reply.second, reply.third];
-    put_line(out, at, texts, reply.text, &numbers)
+    put_line(out, at, reply.text, &numbers)
 }
 
-fn put_action(out: &mut Output, at: usize, texts: &[u8], service: u64, action: u64) -> usize {
+fn put_action(out: &mut Output, at: usize, service: u64, action: u64) -> usize {
     let numbers = [service, action_signal(action)];
-    put_text(out, at, texts, action_text(action), &numbers)
+    put_text(out, at, action_text(action), &numbers)
 }
 
 fn put_parting(out: &mut Output, at: usize) -> usize {
@@ -29,7 +29,6 @@ fn put_parting(out: &mut Output, at: usize) -> usize {
 fn put_actions(
     out: &mut Output,
     at: usize,
-    texts: &[u8],
     count: usize,
     services: &[u64],
     actions: &[u64],
@@ -41,8 +40,7 @@ fn put_actions(
         to = put_action(
             out,
             to,
-            texts,
-            number_at(services, i),
+                number_at(services, i),
             number_at(actions, i),
         );
         i += 1;
@@ -54,12 +52,11 @@ fn put_actions(
 pub(crate) fn put_run(
     out: &mut Output,
     at: usize,
-    texts: &[u8],
     count: u64,
     services: &[u64],
     actions: &[u64],
 ) -> usize {
-    let told = put_numbered(out, at, texts, RUN_COUNT, count);
-    let to = put_actions(out, told, texts, count as usize, services, actions);
+    let told = put_numbered(out, at, RUN_COUNT, count);
+    let to = put_actions(out, told, count as usize, services, actions);
     put(out, to, b'\n')
 }
