@@ -5,18 +5,28 @@ use mathlib.Core.Path.{_≡_, refl, sym, ap, _∙_}
 use lib.Dec.{eqb}
 use Rattle.base.specs.Folds.{pick}
 use Rattle.service.specs.Numbers.{refusalNumber}
+use Rattle.service.specs.declared.ActionAnswer.{ActionAnswer}
+use Rattle.service.specs.declared.ActionAnswer.the-variants.{Act, Refused as ActionRefused}
 use Rattle.service.specs.declared.Changed.{Changed}
 use Rattle.service.specs.declared.EventAnswer.{EventAnswer}
 use Rattle.service.specs.declared.EventAnswer.the-variants.{Done, Refused as EventRefused}
+use Rattle.service.specs.declared.QueryAnswer.{QueryAnswer}
+use Rattle.service.specs.declared.Ran.{Ran}
 use Rattle.service.specs.declared.Refusal.{Refusal}
 use Rattle.service.specs.declared.Refusal.the-variants.{IllFormed, NoService, NotLive, ClockBack, ClockPast, NoRoom}
+use Rattle.service.specs.declared.RunAnswer.{RunAnswer}
+use Rattle.service.specs.declared.RunAnswer.the-variants.{Ran as RanTo, Refused as RunRefused}
 use Rattle.service.specs.declared.State.{State}
+use Rattle.service.specs.declared.Stepped.{Stepped}
 use Rattle.service.specs.declared.Table.{Table}
-use Rattle.rules.specs.Calls.{Answer, Call, Outcome, outcome, eventAnswer, changedOutcome}
+use Rattle.rules.specs.Calls.{Answer, Call, Outcome, acted, actionAnswer, changedOutcome, done, eventAnswer, next, outcome, query, queryAnswer, queryOutcome, ran, ranOutcome, refused, run, runAnswer, steppedOutcome, told}
 use Rattle.rules.specs.Demand.{isRefused}
 use Rattle.encoding.specs.Numbers.{stateNumbers, stateOf, tableOf}
-use Rattle.numbered.specs.Calls.{callOf, on, refusalOf, numbersAfter}
+use Rattle.numbered.specs.Calls.{askedOf, callOf, nextOf, numbersAfter, on, refusalOf, runOf}
 use Rattle.numbered.specs.declared.forms.Event.{Event}
+use Rattle.numbered.specs.declared.forms.Next.{Next}
+use Rattle.numbered.specs.declared.forms.Run.{Run}
+use Rattle.numbered.specs.declared.forms.Asked.{Asked}
 
 -- ---- a refusal's number is not 0
 
@@ -34,6 +44,30 @@ refusal-told NoRoom l m = refl
 event-told : (a : EventAnswer) → Told (eventAnswer a)
 event-told Done l m = refl
 event-told (EventRefused k) l m = refusal-told k l m
+
+action-told : (a : ActionAnswer) → Told (actionAnswer a)
+action-told (Act a) l m = refl
+action-told (ActionRefused k) l m = refusal-told k l m
+
+run-told : (a : RunAnswer) → Told (runAnswer a)
+run-told (RanTo n) l m = refl
+run-told (RunRefused k) l m = refusal-told k l m
+
+-- ---- and stands in each answer
+
+next-refusal : (a : Answer) → nextOf a .refusal ≡ refusalOf a
+next-refusal (refused k) = refl
+next-refusal done = refl
+next-refusal (acted a) = refl
+next-refusal (ran n) = refl
+next-refusal (told d) = refl
+
+run-refusal : (a : Answer) → runOf a .refusal ≡ refusalOf a
+run-refusal (refused k) = refl
+run-refusal done = refl
+run-refusal (acted a) = refl
+run-refusal (ran n) = refl
+run-refusal (told d) = refl
 
 -- ---- the numbers after a call that gave the outcome o
 
@@ -61,3 +95,37 @@ event-kept t l c y e f h q p = (
   q ∙ ap (λ (z : Outcome). refusalOf (z .answer)) (is-on t l c (changedOutcome y) e f h),
   is-kept t l c (changedOutcome y) e f h (event-told (y .answer)) q p,
 )
+
+-- ---- the next action
+
+pub next-kept : (t l : List ℕ) {T : Table} {X : State} (y : Stepped) → T ≡ tableOf t → X ≡ stateOf l
+    → steppedOutcome y ≡ outcome T X next → {r : Next} {m : List ℕ} → r ≡ nextOf (actionAnswer (y .answer))
+    → m ≡ pick (eqb (r .refusal) 0) (stateNumbers l (y .state)) l
+    → (r ≡ nextOf (on t l next .answer)) × (m ≡ numbersAfter l (on t l next))
+next-kept t l y e f h q p = (
+  q ∙ ap (λ (z : Outcome). nextOf (z .answer)) (is-on t l next (steppedOutcome y) e f h),
+  is-kept t l next (steppedOutcome y) e f h (action-told (y .answer))
+      (ap (λ (r : Next). r .refusal) q ∙ next-refusal (actionAnswer (y .answer))) p,
+)
+
+-- ---- a run
+
+pub run-kept : (t l ss as′ : List ℕ) {T : Table} {X : State} (y : Ran) {ss₁ as₁ : List ℕ} → T ≡ tableOf t → X ≡ stateOf l
+    → ranOutcome y ss₁ as₁ ≡ outcome T X (run ss as′) → {r : Run} {m : List ℕ} → r ≡ runOf (runAnswer (y .answer))
+    → m ≡ pick (eqb (r .refusal) 0) (stateNumbers l (y .state)) l
+    → (r ≡ runOf (on t l (run ss as′) .answer)) × (m ≡ numbersAfter l (on t l (run ss as′)))
+    × (ss₁ ≡ on t l (run ss as′) .services) × (as₁ ≡ on t l (run ss as′) .actions)
+run-kept t l ss as′ y {ss₁} {as₁} e f h q p =
+    let o = ranOutcome y ss₁ as₁ in
+    let w = is-on t l (run ss as′) o e f h in (
+      q ∙ ap (λ (z : Outcome). runOf (z .answer)) w,
+      is-kept t l (run ss as′) o e f h (run-told (y .answer)) (ap (λ (r : Run). r .refusal) q ∙ run-refusal (runAnswer (y .answer))) p,
+      ap (λ (z : Outcome). z .services) w,
+      ap (λ (z : Outcome). z .actions) w,
+    )
+
+-- ---- the query
+
+pub query-told : (t l : List ℕ) {T : Table} {X : State} (a : QueryAnswer) → T ≡ tableOf t → X ≡ stateOf l
+    → queryOutcome a X ≡ outcome T X query → {r : Asked} → r ≡ askedOf (queryAnswer a) → r ≡ askedOf (on t l query .answer)
+query-told t l {T} {X} a e f h q = q ∙ ap (λ (z : Outcome). askedOf (z .answer)) (is-on t l query (queryOutcome a X) e f h)

@@ -3,11 +3,16 @@ use Prim.Native.Nat.{ℕ}
 use mathlib.Core.Bool.{false}
 use mathlib.Core.List.{List}
 use Rattle.base.specs.Folds.{pick}
+use Rattle.service.specs.Numbers.{actionNumber, actionService, isQuiet}
 use Rattle.rules.specs.Calls.{Answer, Call, Outcome, acted, clock, done, end, outcome, ran, refused, start, stop, stopAll, told}
 use Rattle.rules.specs.Demand.{isRefused}
 use Rattle.encoding.specs.Numbers.{stateNumbers, stateOf, tableOf}
+use Rattle.encoding.specs.Values.{timed, timeOf}
 use Rattle.numbered.specs.declared.forms.Event.{Event}
 use Rattle.numbered.specs.declared.forms.Event.the-variants.{Start, Stop, StopAll, End, Clock}
+use Rattle.numbered.specs.declared.forms.Next.{Next}
+use Rattle.numbered.specs.declared.forms.Run.{Run}
+use Rattle.numbered.specs.declared.forms.Asked.{Asked}
 
 -- the call that an event is
 abbrev pub callOf : Event → Call
@@ -28,6 +33,30 @@ refusalOf done = 0
 refusalOf (acted a) = 0
 refusalOf (ran n) = 0
 refusalOf (told d) = 0
+
+-- an answer as the numbers of a next action; what other calls answer says nothing there
+abbrev pub nextOf : Answer → Next
+nextOf (refused k) = record { refusal = k; quiet = false; service = 0; action = 0 }
+nextOf done = record { refusal = 0; quiet = false; service = 0; action = 0 }
+nextOf (acted a) = record { refusal = 0; quiet = isQuiet a; service = actionService a; action = actionNumber a }
+nextOf (ran n) = record { refusal = 0; quiet = false; service = 0; action = 0 }
+nextOf (told d) = record { refusal = 0; quiet = false; service = 0; action = 0 }
+
+-- the same for a run
+abbrev pub runOf : Answer → Run
+runOf (refused k) = record { refusal = k; count = 0 }
+runOf done = record { refusal = 0; count = 0 }
+runOf (acted a) = record { refusal = 0; count = 0 }
+runOf (ran n) = record { refusal = 0; count = n }
+runOf (told d) = record { refusal = 0; count = 0 }
+
+-- the same for a query
+abbrev pub askedOf : Answer → Asked
+askedOf (refused k) = record { refusal = k; timed = false; time = 0 }
+askedOf done = record { refusal = 0; timed = false; time = 0 }
+askedOf (acted a) = record { refusal = 0; timed = false; time = 0 }
+askedOf (ran n) = record { refusal = 0; timed = false; time = 0 }
+askedOf (told d) = record { refusal = 0; timed = timed d; time = timeOf d }
 
 -- the state's numbers after a call: a refused one leaves them as they were
 abbrev pub numbersAfter : List ℕ → Outcome → List ℕ

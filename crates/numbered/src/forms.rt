@@ -6,3 +6,24 @@ pub enum Event {
     End(usize, bool),
     Clock(u64),
 }
+
+// The next action: a refusal's number, or 0; and else whether all is quiet, or the service and the number of the action.
+pub struct Next {
+    pub refusal: u64,
+    pub quiet: bool,
+    pub service: u64,
+    pub action: u64,
+}
+
+// A run: a refusal's number, or 0; and how many actions were handed out.
+pub struct Run {
+    pub refusal: u64,
+    pub count: u64,
+}
+
+// A query: a refusal's number, or 0; and the earliest time, where there is one.
+pub struct Asked {
+    pub refusal: u64,
+    pub timed: bool,
+    pub time: u64,
+}

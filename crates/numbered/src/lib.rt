@@ -1,22 +1,32 @@
 // The load and the calls over plain numbers: table and state are lent as numbers, and the answers are numbers.
 mod forms;
 
+use actions::action_number;
+use actions::action_service;
+use actions::is_quiet;
 use encoding::Numbers;
 use encoding::read_state;
 use encoding::read_table;
 use encoding::refusal_number;
 use encoding::write_state;
+pub use forms::Asked;
 pub use forms::Event;
+pub use forms::Next;
+pub use forms::Run;
+use service::ActionAnswer;
 use service::Changed;
+use service::Deadline;
 use service::EventAnswer;
+use service::QueryAnswer;
+use service::RunAnswer;
 use service::State;
 use service::Table;
 ghost use mathlib.Core.Path.{_≡_};
 ghost use lib.Dec.{eqb};
 ghost use Rattle.base.specs.Folds.{pick};
-ghost use Rattle.rules.specs.Calls.{outcome, eventAnswer, changedOutcome};
+ghost use Rattle.rules.specs.Calls.{next, query as asking, run, told, outcome, eventAnswer, actionAnswer, runAnswer, queryAnswer, changedOutcome};
 ghost use Rattle.encoding.specs.Numbers.{stateNumbers};
-ghost use Rattle.numbered.specs.Calls.{callOf, on, refusalOf, numbersAfter};
+ghost use Rattle.numbered.specs.Calls.{callOf, on, refusalOf, nextOf, runOf, askedOf, numbersAfter};
 
 // ---- the calls
 
@@ -60,4 +70,100 @@ pub fn event(table: &Numbers, state: &mut Numbers, e: Event) -> u64
     let refusal = event_refusal(answer);
     keep(state, refusal, changed.state);
     refusal
+}
+
+fn next_of(answer: ActionAnswer) -> Next
+    ensures { λ r. ⌜ r ≡ nextOf (actionAnswer answer) ⌝ }
+{
+    match answer {
+        ActionAnswer::Act(action) => Next {
+            refusal: 0,
+            quiet: is_quiet(action),
+            service: action_service(action),
+            action: action_number(action),
+        },
+        ActionAnswer::Refused(refusal) => Next {
+            refusal: refusal_number(refusal),
+            quiet: false,
+            service: 0,
+            action: 0,
+        },
+    }
+}
+
+pub fn next_action(table: &Numbers, state: &mut Numbers) -> Next
+    ensures { λ r. ⌜ (r ≡ nextOf (on (now (table .entry)) (now (state .entry)) next .answer)) × (now (state .exit) ≡ numbersAfter (now (state .entry)) (on (now (table .entry)) (now (state .entry)) next)) ⌝ }
+{
+    let stepped = engine::next_action(read_table(table), read_state(state));
+    let answer = stepped.answer;
+    let told = next_of(answer);
+    keep(state, told.refusal, stepped.state);
+    told
+}
+
+fn run_of(answer: RunAnswer) -> Run
+    ensures { λ r. ⌜ r ≡ runOf (runAnswer answer) ⌝ }
+{
+    match answer {
+        RunAnswer::Ran(count) => Run {
+            refusal: 0,
+            count: count as u64,
+        },
+        RunAnswer::Refused(refusal) => Run {
+            refusal: refusal_number(refusal),
+            count: 0,
+        },
+    }
+}
+
+// A run to quiet, with the services and the actions in the two lent slices.
+pub fn run_to_quiet(
+    table: &Numbers,
+    state: &mut Numbers,
+    services: &mut [u64],
+    actions: &mut [u64],
+) -> Run
+    ensures { λ r. ⌜ (r ≡ runOf (on (now (table .entry)) (now (state .entry)) (run (now (services .entry)) (now (actions .entry))) .answer)) × (now (state .exit) ≡ numbersAfter (now (state .entry)) (on (now (table .entry)) (now (state .entry)) (run (now (services .entry)) (now (actions .entry))))) × (now (services .exit) ≡ on (now (table .entry)) (now (state .entry)) (run (now (services .entry)) (now (actions .entry))) .services) × (now (actions .exit) ≡ on (now (table .entry)) (now (state .entry)) (run (now (services .entry)) (now (actions .entry))) .actions) ⌝ }
+{
+    let ran = engine::run_to_quiet(read_table(table), read_state(state), services, actions);
+    let answer = ran.answer;
+    let told = run_of(answer);
+    keep(state, told.refusal, ran.state);
+    told
+}
+
+fn asked_time(earliest: Deadline) -> Asked
+    ensures { λ r. ⌜ r ≡ askedOf (told earliest) ⌝ }
+{
+    match earliest {
+        Deadline::None => Asked {
+            refusal: 0,
+            timed: false,
+            time: 0,
+        },
+        Deadline::At(time) => Asked {
+            refusal: 0,
+            timed: true,
+            time,
+        },
+    }
+}
+
+fn asked_of(answer: QueryAnswer) -> Asked
+    ensures { λ r. ⌜ r ≡ askedOf (queryAnswer answer) ⌝ }
+{
+    match answer {
+        QueryAnswer::Earliest(earliest) => asked_time(earliest),
+        QueryAnswer::Refused(refusal) => Asked {
+            refusal: refusal_number(refusal),
+            timed: false,
+            time: 0,
+        },
+    }
+}
+
+pub fn query(table: &Numbers, state: &Numbers) -> Asked
+    ensures { λ r. ⌜ r ≡ askedOf (on (now (table .entry)) (now (state .entry)) asking .answer) ⌝ }
+{
+    asked_of(engine::query(read_table(table), read_state(state)))
 }
