@@ -9,24 +9,33 @@ use encoding::read_state;
 use encoding::read_table;
 use encoding::refusal_number;
 use encoding::write_state;
+use encoding::write_table;
 pub use forms::Asked;
 pub use forms::Event;
+pub use forms::Load;
 pub use forms::Next;
 pub use forms::Run;
+use lent::Answer;
+use loader::Loaded;
 use service::ActionAnswer;
 use service::Changed;
 use service::Deadline;
 use service::EventAnswer;
+use service::MAX_SERVICES;
 use service::QueryAnswer;
 use service::RunAnswer;
 use service::State;
 use service::Table;
+use storing::Commands;
 ghost use mathlib.Core.Path.{_≡_};
+ghost use Prim.Native.Nat.{_<_};
 ghost use lib.Dec.{eqb};
 ghost use Rattle.base.specs.Folds.{pick};
 ghost use Rattle.rules.specs.Calls.{next, query as asking, run, told, outcome, eventAnswer, actionAnswer, runAnswer, queryAnswer, changedOutcome};
 ghost use Rattle.encoding.specs.Numbers.{stateNumbers};
+ghost use Rattle.loader.specs.Load.{load as loading};
 ghost use Rattle.numbered.specs.Calls.{callOf, on, refusalOf, nextOf, runOf, askedOf, numbersAfter};
+ghost use Rattle.numbered.specs.Loads.{loadOf, counted, countsOf, tableAfter, stateAfter, countsAfter};
 
 // ---- the calls
 
@@ -166,4 +175,87 @@ pub fn query(table: &Numbers, state: &Numbers) -> Asked
     ensures { λ r. ⌜ r ≡ askedOf (on (now (table .entry)) (now (state .entry)) asking .answer) ⌝ }
 {
     asked_of(engine::query(read_table(table), read_state(state)))
+}
+
+// ---- the load
+
+// How many tokens each command has, command before stop-command, service by service.
+pub type Counts = [u64; 64];
+
+fn load_of(answer: Answer, count: usize) -> Load
+    ensures { λ r. ⌜ r ≡ loadOf answer count ⌝ }
+{
+    match answer {
+        Answer::Accepted => Load {
+            number: 0,
+            service: 0,
+            line: 0,
+            count: count as u64,
+        },
+        Answer::Refused {
+            number,
+            service,
+            line,
+        } => Load {
+            number: number as u64,
+            service: service as u64,
+            line: line as u64,
+            count: 0,
+        },
+    }
+}
+
+fn put_counts(counts: &mut Counts, s: usize, commands: Commands)
+    requires { ⌜ s < 32 ⌝ }
+    ensures { λ _. ⌜ now (counts .exit) ≡ counted (now (counts .entry)) s commands ⌝ }
+{
+    let start = commands.start;
+    let stop = commands.stop;
+    counts[2 * s] = start.count as u64;
+    counts[2 * s + 1] = stop.count as u64;
+}
+
+fn write_counts(counts: &mut Counts, commands: [Commands; MAX_SERVICES])
+    ensures { λ _. ⌜ now (counts .exit) ≡ countsOf (now (counts .entry)) commands ⌝ }
+{
+    let mut s: usize = 0;
+    while s < MAX_SERVICES {
+        put_counts(counts, s, commands[s]);
+        s += 1;
+    }
+}
+
+// Writes what an accepted load gave, and the fresh state; a refused one leaves all as it was.
+fn keep_loaded(
+    loaded: Loaded,
+    table: &mut Numbers,
+    state: &mut Numbers,
+    counts: &mut Counts,
+) -> Load
+    ensures { λ r. ⌜ (r ≡ loadOf (loaded .answer) (loaded .table .count)) × (now (table .exit) ≡ tableAfter (now (table .entry)) loaded) × (now (state .exit) ≡ stateAfter (now (state .entry)) loaded) × (now (counts .exit) ≡ countsAfter (now (counts .entry)) loaded) ⌝ }
+{
+    let answer = loaded.answer;
+    let Answer::Accepted = answer else {
+        return load_of(answer, 0);
+    };
+    let t = loaded.table;
+    let commands = loaded.commands;
+    write_table(table, t);
+    write_state(state, State::fresh());
+    write_counts(counts, commands);
+    load_of(answer, t.count)
+}
+
+// Loads a set, as the loader does.
+pub fn load(
+    lent: &[u8],
+    ends: &[usize],
+    tokens: &mut [u8],
+    table: &mut Numbers,
+    state: &mut Numbers,
+    counts: &mut Counts,
+) -> Load
+    ensures { λ r. ⌜ (r ≡ loadOf (loading (now (lent .entry)) (now (ends .entry)) (now (tokens .entry)) .loaded .answer) (loading (now (lent .entry)) (now (ends .entry)) (now (tokens .entry)) .loaded .table .count)) × (now (tokens .exit) ≡ loading (now (lent .entry)) (now (ends .entry)) (now (tokens .entry)) .buffer) × (now (table .exit) ≡ tableAfter (now (table .entry)) (loading (now (lent .entry)) (now (ends .entry)) (now (tokens .entry)) .loaded)) × (now (state .exit) ≡ stateAfter (now (state .entry)) (loading (now (lent .entry)) (now (ends .entry)) (now (tokens .entry)) .loaded)) × (now (counts .exit) ≡ countsAfter (now (counts .entry)) (loading (now (lent .entry)) (now (ends .entry)) (now (tokens .entry)) .loaded)) ⌝ }
+{
+    keep_loaded(loader::load(lent, ends, tokens), table, state, counts)
 }
