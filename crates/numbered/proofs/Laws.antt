@@ -22,7 +22,7 @@ use Rattle.service.specs.declared.Table.{Table}
 use Rattle.rules.specs.Calls.{Answer, Call, Outcome, acted, actionAnswer, changedOutcome, done, eventAnswer, next, outcome, query, queryAnswer, queryOutcome, ran, ranOutcome, refused, run, runAnswer, steppedOutcome, told}
 use Rattle.rules.specs.Demand.{isRefused}
 use Rattle.encoding.specs.Numbers.{stateNumbers, stateOf, tableOf}
-use Rattle.numbered.specs.Calls.{askedOf, callOf, nextOf, numbersAfter, on, refusalOf, runOf}
+use Rattle.numbered.specs.Calls.{Called, Written, askedOf, callOf, nextOf, numbersAfter, on, refusalOf, runOf}
 use Rattle.numbered.specs.declared.forms.Event.{Event}
 use Rattle.numbered.specs.declared.forms.Next.{Next}
 use Rattle.numbered.specs.declared.forms.Run.{Run}
@@ -75,57 +75,52 @@ module _ (t l : List ℕ) {T : Table} {X : State} (c : Call) (o : Outcome) (e : 
   is-on : o ≡ on t l c
   is-on = h ∙ ap (λ (v : Table). outcome v X c) e ∙ ap (λ (x : State). outcome (tableOf t) x c) f
 
-  is-kept : Told (o .answer) → {n : ℕ} {m : List ℕ} → n ≡ refusalOf (o .answer) → m ≡ pick (eqb n 0) (stateNumbers l (o .state)) l
-      → m ≡ numbersAfter l (on t l c)
-  is-kept k {n} {m} q p =
-      p ∙ ap (λ (i : ℕ). pick (eqb i 0) (stateNumbers l (o .state)) l) q
-      ∙ k l (stateNumbers l (o .state))
-      ∙ ap (λ (z : Outcome). numbersAfter l z) is-on
+  is-kept : {A : Type 0} (tell : Answer → A) → Told (o .answer) → {r : A} {n : ℕ} {m : List ℕ} → r ≡ tell (o .answer)
+      → n ≡ refusalOf (o .answer) → m ≡ pick (eqb n 0) (stateNumbers l (o .state)) l → Called tell (on t l c) l r m
+  is-kept tell k q w p = record {
+    answer = q ∙ ap (λ (z : Outcome). tell (z .answer)) is-on;
+    state =
+        p ∙ ap (λ (i : ℕ). pick (eqb i 0) (stateNumbers l (o .state)) l) w
+        ∙ k l (stateNumbers l (o .state))
+        ∙ ap (λ (z : Outcome). numbersAfter l z) is-on;
+  }
 
 -- ---- the events
 
 pub changed-as : (t : Table) (x : State) {d e : Event} {o : Outcome} → d ≡ e → o ≡ outcome t x (callOf e) → o ≡ outcome t x (callOf d)
 changed-as t x q h = h ∙ sym (ap (λ (e : Event). outcome t x (callOf e)) q)
 
-pub event-kept : (t l : List ℕ) {T : Table} {X : State} (c : Call) (y : Changed) → T ≡ tableOf t → X ≡ stateOf l
-    → changedOutcome y ≡ outcome T X c → {n : ℕ} {m : List ℕ} → n ≡ refusalOf (eventAnswer (y .answer))
-    → m ≡ pick (eqb n 0) (stateNumbers l (y .state)) l
-    → (n ≡ refusalOf (on t l c .answer)) × (m ≡ numbersAfter l (on t l c))
-event-kept t l c y e f h q p = (
-  q ∙ ap (λ (z : Outcome). refusalOf (z .answer)) (is-on t l c (changedOutcome y) e f h),
-  is-kept t l c (changedOutcome y) e f h (event-told (y .answer)) q p,
-)
+module _ (t l : List ℕ) {T : Table} {X : State} where
+  pub event-kept : (c : Call) (y : Changed) → T ≡ tableOf t → X ≡ stateOf l → changedOutcome y ≡ outcome T X c → {n : ℕ} {m : List ℕ}
+      → n ≡ refusalOf (eventAnswer (y .answer)) → m ≡ pick (eqb n 0) (stateNumbers l (y .state)) l → Called refusalOf (on t l c) l n m
+  event-kept c y e f h q p = is-kept t l c (changedOutcome y) e f h refusalOf (event-told (y .answer)) q q p
 
--- ---- the next action
+  -- ---- the next action
 
-pub next-kept : (t l : List ℕ) {T : Table} {X : State} (y : Stepped) → T ≡ tableOf t → X ≡ stateOf l
-    → steppedOutcome y ≡ outcome T X next → {r : Next} {m : List ℕ} → r ≡ nextOf (actionAnswer (y .answer))
-    → m ≡ pick (eqb (r .refusal) 0) (stateNumbers l (y .state)) l
-    → (r ≡ nextOf (on t l next .answer)) × (m ≡ numbersAfter l (on t l next))
-next-kept t l y e f h q p = (
-  q ∙ ap (λ (z : Outcome). nextOf (z .answer)) (is-on t l next (steppedOutcome y) e f h),
-  is-kept t l next (steppedOutcome y) e f h (action-told (y .answer))
-      (ap (λ (r : Next). r .refusal) q ∙ next-refusal (actionAnswer (y .answer))) p,
-)
+  pub next-kept : (y : Stepped) → T ≡ tableOf t → X ≡ stateOf l → steppedOutcome y ≡ outcome T X next → {r : Next} {m : List ℕ}
+      → r ≡ nextOf (actionAnswer (y .answer)) → m ≡ pick (eqb (r .refusal) 0) (stateNumbers l (y .state)) l
+      → Called nextOf (on t l next) l r m
+  next-kept y e f h q p =
+      is-kept t l next (steppedOutcome y) e f h nextOf (action-told (y .answer)) q
+      (ap (λ (r : Next). r .refusal) q ∙ next-refusal (actionAnswer (y .answer))) p
 
--- ---- a run
+  -- ---- a run
 
-pub run-kept : (t l ss as′ : List ℕ) {T : Table} {X : State} (y : Ran) {ss₁ as₁ : List ℕ} → T ≡ tableOf t → X ≡ stateOf l
-    → ranOutcome y ss₁ as₁ ≡ outcome T X (run ss as′) → {r : Run} {m : List ℕ} → r ≡ runOf (runAnswer (y .answer))
-    → m ≡ pick (eqb (r .refusal) 0) (stateNumbers l (y .state)) l
-    → (r ≡ runOf (on t l (run ss as′) .answer)) × (m ≡ numbersAfter l (on t l (run ss as′)))
-    × (ss₁ ≡ on t l (run ss as′) .services) × (as₁ ≡ on t l (run ss as′) .actions)
-run-kept t l ss as′ y {ss₁} {as₁} e f h q p =
-    let o = ranOutcome y ss₁ as₁ in
-    let w = is-on t l (run ss as′) o e f h in (
-      q ∙ ap (λ (z : Outcome). runOf (z .answer)) w,
-      is-kept t l (run ss as′) o e f h (run-told (y .answer)) (ap (λ (r : Run). r .refusal) q ∙ run-refusal (runAnswer (y .answer))) p,
-      ap (λ (z : Outcome). z .services) w,
-      ap (λ (z : Outcome). z .actions) w,
-    )
+  module _ (ss as′ : List ℕ) (y : Ran) {ss₁ as₁ : List ℕ} (e : T ≡ tableOf t) (f : X ≡ stateOf l)
+      (h : ranOutcome y ss₁ as₁ ≡ outcome T X (run ss as′)) where
+    pub run-kept : {r : Run} {m : List ℕ} → r ≡ runOf (runAnswer (y .answer)) → m ≡ pick (eqb (r .refusal) 0) (stateNumbers l (y .state)) l
+        → Called runOf (on t l (run ss as′)) l r m
+    run-kept q p =
+        is-kept t l (run ss as′) (ranOutcome y ss₁ as₁) e f h runOf (run-told (y .answer)) q
+        (ap (λ (r : Run). r .refusal) q ∙ run-refusal (runAnswer (y .answer))) p
 
--- ---- the query
+    pub run-written : Written (on t l (run ss as′)) ss₁ as₁
+    run-written =
+        let w = is-on t l (run ss as′) (ranOutcome y ss₁ as₁) e f h in
+        record { services = ap (λ (z : Outcome). z .services) w; actions = ap (λ (z : Outcome). z .actions) w }
 
-pub query-told : (t l : List ℕ) {T : Table} {X : State} (a : QueryAnswer) → T ≡ tableOf t → X ≡ stateOf l
-    → queryOutcome a X ≡ outcome T X query → {r : Asked} → r ≡ askedOf (queryAnswer a) → r ≡ askedOf (on t l query .answer)
-query-told t l {T} {X} a e f h q = q ∙ ap (λ (z : Outcome). askedOf (z .answer)) (is-on t l query (queryOutcome a X) e f h)
+  -- ---- the query
+
+  pub query-told : (a : QueryAnswer) → T ≡ tableOf t → X ≡ stateOf l → queryOutcome a X ≡ outcome T X query → {r : Asked}
+      → r ≡ askedOf (queryAnswer a) → r ≡ askedOf (on t l query .answer)
+  query-told a e f h q = q ∙ ap (λ (z : Outcome). askedOf (z .answer)) (is-on t l query (queryOutcome a X) e f h)

@@ -2,6 +2,7 @@
 use Prim.Native.Nat.{ℕ}
 use mathlib.Core.Bool.{false}
 use mathlib.Core.List.{List}
+use mathlib.Core.Path.{_≡_}
 use Rattle.base.specs.Folds.{pick}
 use Rattle.service.specs.Numbers.{actionNumber, actionService, isQuiet}
 use Rattle.rules.specs.Calls.{Answer, Call, Outcome, acted, clock, done, end, outcome, ran, refused, start, stop, stopAll, told}
@@ -61,3 +62,13 @@ askedOf (told d) = record { refusal = 0; timed = timed d; time = timeOf d }
 -- the state's numbers after a call: a refused one leaves them as they were
 abbrev pub numbersAfter : List ℕ → Outcome → List ℕ
 numbersAfter x o = pick (isRefused (o .answer)) x (stateNumbers x (o .state))
+
+-- what a call with the outcome o, told in numbers as r, leaves in the state's numbers x
+pub record Called {A : Type 0} (tell : Answer → A) (o : Outcome) (x : List ℕ) (r : A) (left : List ℕ) : Type 0 where
+  pub answer : r ≡ tell (o .answer)
+  pub state : left ≡ numbersAfter x o
+
+-- what a run leaves in the two lent slices
+pub record Written (o : Outcome) (ss as′ : List ℕ) : Type 0 where
+  pub services : ss ≡ o .services
+  pub actions : as′ ≡ o .actions

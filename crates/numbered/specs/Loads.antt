@@ -2,6 +2,7 @@
 use Prim.Native.Nat.{ℕ, _+_, _*_}
 use mathlib.Core.Bool.{Bool, true, false}
 use mathlib.Core.List.{List}
+use mathlib.Core.Path.{_≡_}
 use lib.ListN.{getD, set}
 use Rattle.base.specs.Folds.{fold, pick}
 use Rattle.service.specs.Limits.{maxServices}
@@ -41,3 +42,10 @@ stateAfter l o = pick (isAccepted (o .answer)) (stateNumbers l freshState) l
 
 abbrev pub countsAfter : List ℕ → Loaded → List ℕ
 countsAfter l o = pick (isAccepted (o .answer)) (countsOf l (o .commands)) l
+
+-- what a load leaves in the numbers t of the table, x of the state and n of the counts
+pub record Kept (o : Loaded) (t x n : List ℕ) (r : Load) (t₁ x₁ n₁ : List ℕ) : Type 0 where
+  pub answer : r ≡ loadOf (o .answer) (o .table .count)
+  pub table : t₁ ≡ tableAfter t o
+  pub state : x₁ ≡ stateAfter x o
+  pub counts : n₁ ≡ countsAfter n o

@@ -34,8 +34,8 @@ ghost use Rattle.base.specs.Folds.{pick};
 ghost use Rattle.rules.specs.Calls.{next, query as asking, run, told, outcome, eventAnswer, actionAnswer, runAnswer, queryAnswer, changedOutcome};
 ghost use Rattle.encoding.specs.Numbers.{stateNumbers};
 ghost use Rattle.loader.specs.Load.{load as loading};
-ghost use Rattle.numbered.specs.Calls.{callOf, on, refusalOf, nextOf, runOf, askedOf, numbersAfter};
-ghost use Rattle.numbered.specs.Loads.{loadOf, counted, countsOf, tableAfter, stateAfter, countsAfter};
+ghost use Rattle.numbered.specs.Calls.{callOf, on, refusalOf, nextOf, runOf, askedOf, Called, Written};
+ghost use Rattle.numbered.specs.Loads.{loadOf, counted, countsOf, Kept};
 
 // ---- the calls
 
@@ -72,7 +72,7 @@ fn event_refusal(answer: EventAnswer) -> u64
 
 // An event: 0 where it was done, else the number of its refusal.
 pub fn event(table: &Numbers, state: &mut Numbers, e: Event) -> u64
-    ensures { λ r. ⌜ (r ≡ refusalOf (on (now (table .entry)) (now (state .entry)) (callOf e) .answer)) × (now (state .exit) ≡ numbersAfter (now (state .entry)) (on (now (table .entry)) (now (state .entry)) (callOf e))) ⌝ }
+    ensures { λ r. ⌜ Called refusalOf (on (now (table .entry)) (now (state .entry)) (callOf e)) (now (state .entry)) r (now (state .exit)) ⌝ }
 {
     let changed = change(read_table(table), read_state(state), e);
     let answer = changed.answer;
@@ -101,7 +101,7 @@ fn next_of(answer: ActionAnswer) -> Next
 }
 
 pub fn next_action(table: &Numbers, state: &mut Numbers) -> Next
-    ensures { λ r. ⌜ (r ≡ nextOf (on (now (table .entry)) (now (state .entry)) next .answer)) × (now (state .exit) ≡ numbersAfter (now (state .entry)) (on (now (table .entry)) (now (state .entry)) next)) ⌝ }
+    ensures { λ r. ⌜ Called nextOf (on (now (table .entry)) (now (state .entry)) next) (now (state .entry)) r (now (state .exit)) ⌝ }
 {
     let stepped = engine::next_action(read_table(table), read_state(state));
     let answer = stepped.answer;
@@ -132,7 +132,8 @@ pub fn run_to_quiet(
     services: &mut [u64],
     actions: &mut [u64],
 ) -> Run
-    ensures { λ r. ⌜ (r ≡ runOf (on (now (table .entry)) (now (state .entry)) (run (now (services .entry)) (now (actions .entry))) .answer)) × (now (state .exit) ≡ numbersAfter (now (state .entry)) (on (now (table .entry)) (now (state .entry)) (run (now (services .entry)) (now (actions .entry))))) × (now (services .exit) ≡ on (now (table .entry)) (now (state .entry)) (run (now (services .entry)) (now (actions .entry))) .services) × (now (actions .exit) ≡ on (now (table .entry)) (now (state .entry)) (run (now (services .entry)) (now (actions .entry))) .actions) ⌝ }
+    ensures { λ r. ⌜ Called runOf (on (now (table .entry)) (now (state .entry)) (run (now (services .entry)) (now (actions .entry)))) (now (state .entry)) r (now (state .exit)) ⌝ }
+    ensures { λ _. ⌜ Written (on (now (table .entry)) (now (state .entry)) (run (now (services .entry)) (now (actions .entry)))) (now (services .exit)) (now (actions .exit)) ⌝ }
 {
     let ran = engine::run_to_quiet(read_table(table), read_state(state), services, actions);
     let answer = ran.answer;
@@ -232,7 +233,7 @@ fn keep_loaded(
     state: &mut Numbers,
     counts: &mut Counts,
 ) -> Load
-    ensures { λ r. ⌜ (r ≡ loadOf (loaded .answer) (loaded .table .count)) × (now (table .exit) ≡ tableAfter (now (table .entry)) loaded) × (now (state .exit) ≡ stateAfter (now (state .entry)) loaded) × (now (counts .exit) ≡ countsAfter (now (counts .entry)) loaded) ⌝ }
+    ensures { λ r. ⌜ Kept loaded (now (table .entry)) (now (state .entry)) (now (counts .entry)) r (now (table .exit)) (now (state .exit)) (now (counts .exit)) ⌝ }
 {
     let answer = loaded.answer;
     let Answer::Accepted = answer else {
@@ -255,7 +256,8 @@ pub fn load(
     state: &mut Numbers,
     counts: &mut Counts,
 ) -> Load
-    ensures { λ r. ⌜ (r ≡ loadOf (loading (now (lent .entry)) (now (ends .entry)) (now (tokens .entry)) .loaded .answer) (loading (now (lent .entry)) (now (ends .entry)) (now (tokens .entry)) .loaded .table .count)) × (now (tokens .exit) ≡ loading (now (lent .entry)) (now (ends .entry)) (now (tokens .entry)) .buffer) × (now (table .exit) ≡ tableAfter (now (table .entry)) (loading (now (lent .entry)) (now (ends .entry)) (now (tokens .entry)) .loaded)) × (now (state .exit) ≡ stateAfter (now (state .entry)) (loading (now (lent .entry)) (now (ends .entry)) (now (tokens .entry)) .loaded)) × (now (counts .exit) ≡ countsAfter (now (counts .entry)) (loading (now (lent .entry)) (now (ends .entry)) (now (tokens .entry)) .loaded)) ⌝ }
+    ensures { λ r. ⌜ Kept (loading (now (lent .entry)) (now (ends .entry)) (now (tokens .entry)) .loaded) (now (table .entry)) (now (state .entry)) (now (counts .entry)) r (now (table .exit)) (now (state .exit)) (now (counts .exit)) ⌝ }
+    ensures { λ _. ⌜ now (tokens .exit) ≡ loading (now (lent .entry)) (now (ends .entry)) (now (tokens .entry)) .buffer ⌝ }
 {
     keep_loaded(loader::load(lent, ends, tokens), table, state, counts)
 }
