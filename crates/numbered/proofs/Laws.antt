@@ -1,10 +1,12 @@
 -- From what a call gave with the table and the state that were read, to what the numbers are then.
 use Prim.Native.Nat.{ℕ}
+use mathlib.Core.Bool.{Bool}
 use mathlib.Core.List.{List}
 use mathlib.Core.Path.{_≡_, refl, sym, ap, _∙_}
 use lib.Dec.{eqb}
 use Rattle.base.specs.Folds.{pick}
-use Rattle.service.specs.Numbers.{refusalNumber}
+use Rattle.service.specs.Numbers.{actionNumber, actionService, isQuiet, refusalNumber}
+use Rattle.service.specs.declared.Action.{Action}
 use Rattle.service.specs.declared.ActionAnswer.{ActionAnswer}
 use Rattle.service.specs.declared.ActionAnswer.the-variants.{Act, Refused as ActionRefused}
 use Rattle.service.specs.declared.Changed.{Changed}
@@ -90,12 +92,18 @@ module _ (t l : List ℕ) {T : Table} {X : State} (c : Call) (o : Outcome) (e : 
 pub changed-as : (t : Table) (x : State) {d e : Event} {o : Outcome} → d ≡ e → o ≡ outcome t x (callOf e) → o ≡ outcome t x (callOf d)
 changed-as t x q h = h ∙ sym (ap (λ (e : Event). outcome t x (callOf e)) q)
 
+-- ---- an action in numbers
+
+pub acted-as : {d : ActionAnswer} {a : Action} {q : Bool} {s n : ℕ} → d ≡ Act a → q ≡ isQuiet a → s ≡ actionService a → n ≡ actionNumber a
+    → record { refusal = 0; quiet = q; service = s; action = n } ≡ nextOf (actionAnswer d)
+acted-as e q s n = rw (e, q, s, n)
+
+-- ---- the calls
+
 module _ (t l : List ℕ) {T : Table} {X : State} where
   pub event-kept : (c : Call) (y : Changed) → T ≡ tableOf t → X ≡ stateOf l → changedOutcome y ≡ outcome T X c → {n : ℕ} {m : List ℕ}
       → n ≡ refusalOf (eventAnswer (y .answer)) → m ≡ pick (eqb n 0) (stateNumbers l (y .state)) l → Called refusalOf (on t l c) l n m
   event-kept c y e f h q p = is-kept t l c (changedOutcome y) e f h refusalOf (event-told (y .answer)) q q p
-
-  -- ---- the next action
 
   pub next-kept : (y : Stepped) → T ≡ tableOf t → X ≡ stateOf l → steppedOutcome y ≡ outcome T X next → {r : Next} {m : List ℕ}
       → r ≡ nextOf (actionAnswer (y .answer)) → m ≡ pick (eqb (r .refusal) 0) (stateNumbers l (y .state)) l
@@ -103,8 +111,6 @@ module _ (t l : List ℕ) {T : Table} {X : State} where
   next-kept y e f h q p =
       is-kept t l next (steppedOutcome y) e f h nextOf (action-told (y .answer)) q
       (ap (λ (r : Next). r .refusal) q ∙ next-refusal (actionAnswer (y .answer))) p
-
-  -- ---- a run
 
   module _ (ss as′ : List ℕ) (y : Ran) {ss₁ as₁ : List ℕ} (e : T ≡ tableOf t) (f : X ≡ stateOf l)
       (h : ranOutcome y ss₁ as₁ ≡ outcome T X (run ss as′)) where
@@ -118,8 +124,6 @@ module _ (t l : List ℕ) {T : Table} {X : State} where
     run-written =
         let w = is-on t l (run ss as′) (ranOutcome y ss₁ as₁) e f h in
         record { services = ap (λ (z : Outcome). z .services) w; actions = ap (λ (z : Outcome). z .actions) w }
-
-  -- ---- the query
 
   pub query-told : (a : QueryAnswer) → T ≡ tableOf t → X ≡ stateOf l → queryOutcome a X ≡ outcome T X query → {r : Asked}
       → r ≡ askedOf (queryAnswer a) → r ≡ askedOf (on t l query .answer)

@@ -85,12 +85,15 @@ fn next_of(answer: ActionAnswer) -> Next
     ensures { λ r. ⌜ r ≡ nextOf (actionAnswer answer) ⌝ }
 {
     match answer {
-        ActionAnswer::Act(action) => Next {
-            refusal: 0,
-            quiet: is_quiet(action),
-            service: action_service(action),
-            action: action_number(action),
-        },
+        ActionAnswer::Act(action) => {
+            let quiet = is_quiet(action);
+            Next {
+                refusal: 0,
+                quiet,
+                service: action_service(action),
+                action: action_number(action),
+            }
+        }
         ActionAnswer::Refused(refusal) => Next {
             refusal: refusal_number(refusal),
             quiet: false,
