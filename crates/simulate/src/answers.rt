@@ -12,7 +12,7 @@ use crate::texts::REFUSED;
 use crate::texts::SIGNAL;
 use crate::texts::STOP_COMMAND;
 use numbered::Asked;
-use numbered::LoadNumbers;
+use numbered::Load;
 use numbered::Next;
 
 // An answer: the place of its text, and up to three numbers.
@@ -85,7 +85,7 @@ pub(crate) fn query_reply(asked: Asked) -> Reply {
     reply_of(NO_EARLIEST, 0, 0)
 }
 
-pub(crate) fn load_reply(load: LoadNumbers) -> Reply {
+pub(crate) fn load_reply(load: Load) -> Reply {
     if load.number == 0 {
         return reply_of(OK_COUNT, load.count, 0);
     }

@@ -9,10 +9,10 @@ use crate::writing::put_run;
 use encoding::Numbers;
 use numbered::Event;
 use numbered::Run;
+use numbered::event;
 use numbered::next_action;
 use numbered::query;
 use numbered::run_to_quiet;
-use numbered::tell;
 use scenario::Command;
 use scenario::END;
 use scenario::NEXT;
@@ -43,26 +43,16 @@ fn call_event(
     state: &mut Numbers,
     command: Command,
 ) -> usize {
-    let refusal = tell(table, state, event_of(command));
+    let refusal = event(table, state, event_of(command));
     put_reply(out, at, event_reply(refusal))
 }
 
-fn call_next(
-    out: &mut Output,
-    at: usize,
-    table: &Numbers,
-    state: &mut Numbers,
-) -> usize {
+fn call_next(out: &mut Output, at: usize, table: &Numbers, state: &mut Numbers) -> usize {
     let next = next_action(table, state);
     put_reply(out, at, next_reply(next))
 }
 
-fn call_query(
-    out: &mut Output,
-    at: usize,
-    table: &Numbers,
-    state: &Numbers,
-) -> usize {
+fn call_query(out: &mut Output, at: usize, table: &Numbers, state: &Numbers) -> usize {
     put_reply(out, at, query_reply(query(table, state)))
 }
 
@@ -92,13 +82,7 @@ fn lent_places(verb: usize, n: u64) -> usize {
 }
 
 // Puts the answer to a run.
-fn put_ran(
-    out: &mut Output,
-    at: usize,
-    run: Run,
-    services: &[u64],
-    actions: &[u64],
-) -> usize {
+fn put_ran(out: &mut Output, at: usize, run: Run, services: &[u64], actions: &[u64]) -> usize {
     if run.refusal == 0 {
         return put_run(out, at, run.count, services, actions);
     }

@@ -76,23 +76,13 @@ pub(crate) fn put_text(out: &mut Output, at: usize, text: usize, numbers: &[u64]
 }
 
 // The same as a line.
-pub(crate) fn put_line(
-    out: &mut Output,
-    at: usize,
-    text: usize,
-    numbers: &[u64],
-) -> usize {
+pub(crate) fn put_line(out: &mut Output, at: usize, text: usize, numbers: &[u64]) -> usize {
     let to = put_text(out, at, text, numbers);
     put(out, to, b'\n')
 }
 
 // Puts a text of the format that has one number.
-pub(crate) fn put_numbered(
-    out: &mut Output,
-    at: usize,
-    text: usize,
-    n: u64,
-) -> usize {
+pub(crate) fn put_numbered(out: &mut Output, at: usize, text: usize, n: u64) -> usize {
     let numbers = [n];
     put_text(out, at, text, &numbers)
 }

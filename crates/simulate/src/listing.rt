@@ -35,13 +35,7 @@ fn range(numbers: &[u64], from: usize, count: usize) -> &[u64] {
 }
 
 // A service with its name and its type.
-fn put_service(
-    out: &mut Output,
-    at: usize,
-    s: usize,
-    name: &[u8],
-    kind: u64,
-) -> usize {
+fn put_service(out: &mut Output, at: usize, s: usize, name: &[u8], kind: u64) -> usize {
     let opened = put_numbered(out, at, SERVICE_HEAD, s as u64);
     let named = put_bytes(out, opened, name);
     let typed = put_numbered(out, named, SERVICE_TAIL, kind);
@@ -71,13 +65,7 @@ pub(crate) fn put_services(
 }
 
 // The settings of a service, with how many tokens its commands have.
-fn put_settings(
-    out: &mut Output,
-    at: usize,
-    s: usize,
-    settings: &[u64],
-    counts: &[u64],
-) -> usize {
+fn put_settings(out: &mut Output, at: usize, s: usize, settings: &[u64], counts: &[u64]) -> usize {
     let opened = put_numbered(out, at, SERVICE_HEAD, s as u64);
     let told = put_text(out, opened, SETTINGS, settings);
     put_line(out, told, COMMANDS, counts)
@@ -166,12 +154,7 @@ fn record_text(timed: u64) -> usize {
 
 fn put_record(out: &mut Output, at: usize, s: usize, record: &[u64]) -> usize {
     let opened = put_numbered(out, at, SERVICE_HEAD, s as u64);
-    put_line(
-        out,
-        opened,
-        record_text(number_at(record, 5)),
-        record,
-    )
+    put_line(out, opened, record_text(number_at(record, 5)), record)
 }
 
 // The records of so many services.
@@ -189,12 +172,7 @@ fn put_records(out: &mut Output, at: usize, state: &Numbers, count: u64) -> usiz
 }
 
 // The clock, and the record of each service below the table's count.
-pub(crate) fn put_state(
-    out: &mut Output,
-    at: usize,
-    state: &Numbers,
-    count: u64,
-) -> usize {
+pub(crate) fn put_state(out: &mut Output, at: usize, state: &Numbers, count: u64) -> usize {
     let told = put_numbered(out, at, CLOCK_LINE, number_at(state, 0));
     let to = put(out, told, b'\n');
     put_records(out, to, state, count)

@@ -9,7 +9,7 @@ use crate::output::Output;
 use crate::writing::put_reply;
 use encoding::Numbers;
 use numbered::Counts;
-use numbered::LoadNumbers;
+use numbered::Load;
 use numbered::load;
 use scenario::Command;
 use scenario::LOAD;
@@ -77,7 +77,7 @@ fn load_in(
     table: &mut Numbers,
     state: &mut Numbers,
     counts: &mut Counts,
-) -> LoadNumbers {
+) -> Load {
     let most = room as usize;
     if most <= tokens.len() {
         return load(lent, ends, &mut tokens[0..most], table, state, counts);
@@ -95,7 +95,7 @@ fn load_given(
     table: &mut Numbers,
     state: &mut Numbers,
     counts: &mut Counts,
-) -> LoadNumbers {
+) -> Load {
     let lent = part(buffer, 0, given.bytes);
     let ends = lent_positions(positions, command, given.begun);
     load_in(lent, ends, command.first, tokens, table, state, counts)
@@ -112,7 +112,7 @@ fn take_positions(command: Command, line: &[u8], positions: &mut Positions) {
 fn put_loaded(
     out: &mut Output,
     at: usize,
-    load: LoadNumbers,
+    load: Load,
     command: Command,
     given: Given,
     buffer: &Buffer,

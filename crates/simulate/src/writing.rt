@@ -37,12 +37,7 @@ fn put_actions(
     let mut i: usize = 0;
     while i < count {
         to = put_parting(out, to);
-        to = put_action(
-            out,
-            to,
-                number_at(services, i),
-            number_at(actions, i),
-        );
+        to = put_action(out, to, number_at(services, i), number_at(actions, i));
         i += 1;
     }
     to

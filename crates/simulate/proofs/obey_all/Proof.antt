@@ -6,10 +6,10 @@ use Rattle.simulate.proofs.obey_all.Statement.{statement}
 use Rattle.simulate.proofs.obey_all.Tie as tie
 
 abbrev Inv-loop : tie.InvT-loop
-Inv-loop texts scenario buffer₀ positions₀ tokens₀ table₀ state₀ counts₀ out₀ stand₀ lines₀ at₀ buffer positions tokens table state counts out stand lines at = at ≤ length scenario
+Inv-loop scenario buffer₀ positions₀ tokens₀ table₀ state₀ counts₀ out₀ stand₀ lines₀ at₀ buffer positions tokens table state counts out stand lines at = at ≤ length scenario
 
 abbrev μ-loop : tie.MeasureT-loop
-μ-loop texts scenario buffer₀ positions₀ tokens₀ table₀ state₀ counts₀ out₀ stand₀ lines₀ at₀ buffer positions tokens table state counts out stand lines at = length scenario - at
+μ-loop scenario buffer₀ positions₀ tokens₀ table₀ state₀ counts₀ out₀ stand₀ lines₀ at₀ buffer positions tokens table state counts out stand lines at = length scenario - at
 
 pub obey-all-spec : {M : Type 1} → statement M
 obey-all-spec =

@@ -5,10 +5,10 @@ use Rattle.simulate.proofs.listing.put_all_settings.Statement.{statemen
 use Rattle.simulate.proofs.listing.put_all_settings.Tie as tie
 
 abbrev Inv-loop : tie.InvT-loop
-Inv-loop out₀ at texts table counts count to₀ s₀ out to s = s ≤ 32
+Inv-loop out₀ at table counts count to₀ s₀ out to s = s ≤ 32
 
 abbrev μ-loop : tie.MeasureT-loop
-μ-loop out₀ at texts table counts count to₀ s₀ out to s = 32 - s
+μ-loop out₀ at table counts count to₀ s₀ out to s = 32 - s
 
 pub put-all-settings-spec : {M : Type 1} → statement M
 put-all-settings-spec =

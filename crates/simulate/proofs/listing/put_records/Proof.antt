@@ -5,10 +5,10 @@ use Rattle.simulate.proofs.listing.put_records.Statement.{statement}
 use Rattle.simulate.proofs.listing.put_records.Tie as tie
 
 abbrev Inv-loop : tie.InvT-loop
-Inv-loop out₀ at texts state count to₀ s₀ out to s = s ≤ 32
+Inv-loop out₀ at state count to₀ s₀ out to s = s ≤ 32
 
 abbrev μ-loop : tie.MeasureT-loop
-μ-loop out₀ at texts state count to₀ s₀ out to s = 32 - s
+μ-loop out₀ at state count to₀ s₀ out to s = 32 - s
 
 pub put-records-spec : {M : Type 1} → statement M
 put-records-spec =

@@ -5,10 +5,10 @@ use Rattle.simulate.proofs.listing.put_services.Statement.{statement}
 use Rattle.simulate.proofs.listing.put_services.Tie as tie
 
 abbrev Inv-loop : tie.InvT-loop
-Inv-loop out₀ at texts table count lent positions to₀ s₀ out to s = s ≤ 32
+Inv-loop out₀ at table count lent positions to₀ s₀ out to s = s ≤ 32
 
 abbrev μ-loop : tie.MeasureT-loop
-μ-loop out₀ at texts table count lent positions to₀ s₀ out to s = 32 - s
+μ-loop out₀ at table count lent positions to₀ s₀ out to s = 32 - s
 
 pub put-services-spec : {M : Type 1} → statement M
 put-services-spec =
