@@ -32,11 +32,10 @@ counted l s c = set (set l (2 * s) (c .start .count)) (2 * s + 1) (c .stop .coun
 unfoldable pub countsOf : List ℕ → List Commands → List ℕ
 countsOf l cs = fold (λ m s. counted m s (getD cs s (record { start = noTokens; stop = noTokens }))) l maxServices
 
--- after a load: a refused one leaves the numbers as they were
+-- the numbers after a load: a refused one leaves them as they were, an accepted one writes the table, the fresh state and the counts
 abbrev pub tableAfter : List ℕ → Loaded → List ℕ
 tableAfter l o = pick (isAccepted (o .answer)) (tableNumbers l (o .table)) l
 
--- after a load the state is the fresh one
 abbrev pub stateAfter : List ℕ → Loaded → List ℕ
 stateAfter l o = pick (isAccepted (o .answer)) (stateNumbers l freshState) l
 

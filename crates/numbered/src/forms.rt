@@ -1,4 +1,6 @@
-// What is asked and answered: a function and a type whose names differ only in case stand in two modules.
+// What is asked and answered, in numbers. The types have a module of their own since `event` and `Event` may not stand in one.
+
+// What happens to the services: a service by its place, whether an end was good, and the time of the clock.
 pub enum Event {
     Start(usize),
     Stop(usize),

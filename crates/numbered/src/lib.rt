@@ -103,6 +103,7 @@ fn next_of(answer: ActionAnswer) -> Next
     }
 }
 
+// The next action, whose change of the state is kept.
 pub fn next_action(table: &Numbers, state: &mut Numbers) -> Next
     ensures { λ r. ⌜ Called nextOf (on (now (table .entry)) (now (state .entry)) next) (now (state .entry)) r (now (state .exit)) ⌝ }
 {
@@ -175,6 +176,7 @@ fn asked_of(answer: QueryAnswer) -> Asked
     }
 }
 
+// The earliest time at which a service may have something to do.
 pub fn query(table: &Numbers, state: &Numbers) -> Asked
     ensures { λ r. ⌜ r ≡ askedOf (on (now (table .entry)) (now (state .entry)) asking .answer) ⌝ }
 {
@@ -209,6 +211,7 @@ fn load_of(answer: Answer, count: usize) -> Load
     }
 }
 
+// Puts how many tokens the two commands of a service have.
 fn put_counts(counts: &mut Counts, s: usize, commands: Commands)
     requires { ⌜ s < 32 ⌝ }
     ensures { λ _. ⌜ now (counts .exit) ≡ counted (now (counts .entry)) s commands ⌝ }
@@ -250,7 +253,7 @@ fn keep_loaded(
     load_of(answer, t.count)
 }
 
-// Loads a set, as the loader does.
+// Loads a set, as the loader does: a refusal leaves all that is lent as it was.
 pub fn load(
     lent: &[u8],
     ends: &[usize],
