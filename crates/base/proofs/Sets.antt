@@ -10,23 +10,15 @@ use lib.Pow.{pow-pos, pow-mono, pow-lt, mod-pow-add, shl-exact}
 use lib.Bits.{bitAnd, and-le-r, or-lt}
 use Rattle.base.specs.Folds.{some, first, firstFrom}
 use Rattle.base.specs.Sets.{hasBit, single, kept, overlap, marked, union}
-use Rattle.base.proofs.Tests.{either}
+use Rattle.base.proofs.Tests.{and-all, and-none, either, or-all, or-none}
 use Rattle.base.proofs.Below.{some-as, first-as}
 use Rattle.base.proofs.Bits.{hasBit-or, hasBit-and, hasBit-none, hasBit-small, power-at, power-over}
 
 -- a digit at k and what is below it are 0 together where both are
 digit-zero : (d q r : ℕ) → 0 < q → d < 2 → not (eqb (d * q + r) 0) ≡ (not (eqb r 0) || eqb d 1)
-digit-zero zero q r h l = ap (λ m. not (eqb m 0)) (ap (λ m. m + r) (zero-mul q) ∙ zero-add r) ∙ or-none (not (eqb r 0))
+digit-zero zero q r h l = ap (λ m. not (eqb m 0)) (ap (λ m. m + r) (zero-mul q) ∙ zero-add r) ∙ sym (or-none (not (eqb r 0)))
+digit-zero (suc zero) (suc q) r h l = ap (λ m. not (eqb m 0)) (one r) ∙ ap not (eqb·suc-zero (q + r)) ∙ sym (or-all (not (eqb r 0)))
   where
-    or-none : (x : Bool) → x ≡ (x || false)
-    or-none true = refl
-    or-none false = refl
-digit-zero (suc zero) (suc q) r h l = ap (λ m. not (eqb m 0)) (one r) ∙ ap not (eqb·suc-zero (q + r)) ∙ or-one (not (eqb r 0))
-  where
-    or-one : (x : Bool) → true ≡ (x || true)
-    or-one true = refl
-    or-one false = refl
-
     one : (r : ℕ) → 1 * suc q + r ≡ suc (q + r)
     one r = omega arith
 digit-zero (suc zero) zero r h l = absurd (not-suc-le-zero h)
@@ -65,25 +57,13 @@ single-lt i true = pow-lt (le-refl (suc i))
 single-lt i false = pow-pos (suc i)
 
 pub kept-bit : (b : Bool) (m s : ℕ) → hasBit (kept b m) s ≡ (hasBit m s && b)
-kept-bit true m s = and-true (hasBit m s)
-  where
-    and-true : (x : Bool) → x ≡ (x && true)
-    and-true true = refl
-    and-true false = refl
-kept-bit false m s = hasBit-none s ∙ and-false (hasBit m s)
-  where
-    and-false : (x : Bool) → false ≡ (x && false)
-    and-false true = refl
-    and-false false = refl
+kept-bit true m s = sym (and-all (hasBit m s))
+kept-bit false m s = hasBit-none s ∙ sym (and-none (hasBit m s))
 
 pub marked-lt : (p : ℕ → Bool) (n : ℕ) → marked p n < 2 ^ n
 marked-lt p zero = pow-pos 0
 marked-lt p (suc n) =
     or-lt (suc n) (marked p n) (single n (p n)) (lt-of-lt-of-le (marked-lt p n) (pow-mono (omega arith))) (single-lt n (p n))
-
-or-no : (x : Bool) → (x || false) ≡ x
-or-no true = refl
-or-no false = refl
 
 -- a number below n is in the set where p holds at it
 pub marked-bit : (p : ℕ → Bool) (n i : ℕ) → i < n → hasBit (marked p n) i ≡ p i
@@ -93,7 +73,7 @@ marked-bit p (suc n) i l =
     ∙ either
     (eq-or-lt-of-le (le-of-suc-le-suc l))
     (λ (q : i ≡ n). rw (q, hasBit-small (marked p n) n (marked-lt p n)) (single-at n (p n)))
-    (λ (q : i < n). rw (single-over n i (p n) q) (or-no (hasBit (marked p n) i) ∙ marked-bit p n i q))
+    (λ (q : i < n). rw (single-over n i (p n) q) (or-none (hasBit (marked p n) i) ∙ marked-bit p n i q))
 
 -- for dependencies: some d below n in m has p
 pub marked-overlap : (p : ℕ → Bool) (m n : ℕ) → overlap m (marked p n) ≡ some (λ d. hasBit m d && p d) n

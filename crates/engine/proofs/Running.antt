@@ -21,10 +21,9 @@ use Rattle.service.specs.declared.RunAnswer.the-variants.{Ran as RanTo}
 use Rattle.service.specs.declared.Ran.{Ran}
 use Rattle.service.specs.declared.Table.{Table}
 use Rattle.service.specs.declared.State.{State}
-use Rattle.service.specs.declared.Step.{Step}
 use Rattle.service.specs.declared.Stepped.{Stepped}
 use Rattle.rules.specs.WellFormed.{formed}
-use Rattle.rules.specs.Rules.{nextAction}
+use Rattle.rules.specs.Rules.{Step, nextAction}
 use Rattle.rules.specs.Runs.{stateAfter, actionAfter, stepsToQuiet, written, writtenServices, writtenActions}
 use Rattle.rules.specs.Calls.{acted, check, gives, next, outcome, ranOutcome, run, steppedOutcome}
 use Rattle.rules.proofs.Formed.{formed-next, formed-sound, sound-next}

@@ -12,13 +12,12 @@ use Rattle.service.specs.declared.Action.the-variants.{Quiet}
 use Rattle.service.specs.declared.Record.{Record}
 use Rattle.service.specs.declared.Table.{Table}
 use Rattle.service.specs.declared.State.{State}
-use Rattle.service.specs.declared.Step.{Step}
 use Rattle.rules.specs.declared.Rule.{Rule}
 use Rattle.rules.specs.declared.Rule.the-variants.{Lose, Abandon, Settle, Wake, Release, Begin, End, Expire}
 use Rattle.rules.specs.declared.Choice.{Choice}
 use Rattle.rules.specs.declared.Choice.the-variants.{Quiet as NoRule, Fit}
 use Rattle.rules.specs.WellFormed.{formed}
-use Rattle.rules.specs.Rules.{lostToUser, leaves, hands, chosen, act, actOn, nextAction}
+use Rattle.rules.specs.Rules.{Step, lostToUser, leaves, hands, chosen, act, actOn, nextAction}
 use Rattle.rules.proofs.Next.{Chosen, rule, chosen-is}
 use Rattle.rules.proofs.Resting.{loud}
 use Rattle.settling.specs.Sound.{sound}

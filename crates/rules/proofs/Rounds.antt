@@ -25,7 +25,6 @@ use Rattle.service.specs.declared.Phase.{Phase}
 use Rattle.service.specs.declared.Phase.the-variants.{Ending}
 use Rattle.service.specs.declared.Record.{Record}
 use Rattle.service.specs.declared.State.{State}
-use Rattle.service.specs.declared.Step.{Step}
 use Rattle.service.specs.declared.Table.{Table}
 use Rattle.service.proofs.Finite.{bools, finite, given, phases}
 use Rattle.service.proofs.Named.{is-ending}
@@ -34,7 +33,7 @@ use Rattle.rules.specs.Calls.{Answer, Call, Outcome, acted, check, clock
 use Rattle.rules.specs.Demand.{Clear, NoZeroTimeout, Now, Reported, Rests, Round, Rounds, Stretch, ToQuiet, accepted, another, by-run, call, empty, freshNow, here, isRefused, isStart, no-rounds, nowAfter, recorded, round, sent, singly, there}
 use Rattle.rules.specs.Dependencies.{blocked, hard, hardLinks}
 use Rattle.rules.specs.Events.{afterClock, afterEnd, endedAs}
-use Rattle.rules.specs.Rules.{due, nextAction}
+use Rattle.rules.specs.Rules.{Step, due, nextAction}
 use Rattle.rules.specs.Runs.{actionAfter, stateAfter, stepsToQuiet, writtenActions, writtenServices}
 use Rattle.rules.specs.WellFormed.{formed, shapedAt, tableFormed}
 use Rattle.rules.specs.declared.Rule.the-variants.{End, Expire}

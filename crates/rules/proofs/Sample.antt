@@ -12,7 +12,7 @@ use Rattle.base.specs.Links.{cyclic, reach}
 use Rattle.base.specs.Sets.{hasBit, within}
 use Rattle.base.proofs.Tests.{no-ft}
 use Rattle.service.specs.Records.{freshState, recordAt, withRecord}
-use Rattle.service.specs.Settings.{settingsAt}
+use Rattle.service.specs.Settings.{process, settingsAt}
 use Rattle.service.specs.declared.Deadline.{Deadline}
 use Rattle.service.specs.declared.Deadline.the-variants.{At, None as NoDeadline}
 use Rattle.service.specs.declared.Phase.the-variants.{Down}
@@ -24,7 +24,6 @@ use Rattle.rules.specs.Events.{afterClock, afterEnd, afterStart, afterSt
 use Rattle.rules.specs.Rules.{act, actOn, chosen, chosenFrom, due, fits, hands, leaves, lostToUser, nextAction}
 use Rattle.rules.specs.Runs.{actionAfter, stateAfter, stepsToQuiet, written, writtenActions, writtenServices}
 use Rattle.rules.specs.WellFormed.{formed, shapedAt, stateFormed, tableFormed}
-use Rattle.rules.specs.Worked.{process}
 use Rattle.rules.proofs.Demand.{demand3}
 
 unfoldable pub lone : Table

@@ -8,7 +8,7 @@ use Rattle.base.specs.Folds.{every, first, some}
 use Rattle.base.specs.Links.{cyclic, reach}
 use Rattle.base.specs.Sets.{hasBit, within}
 use Rattle.service.specs.Records.{freshState, recordAt, withRecord}
-use Rattle.service.specs.Settings.{settingsAt}
+use Rattle.service.specs.Settings.{process, settingsAt}
 use Rattle.service.specs.declared.Action.the-variants.{Launch, Moved, Quiet, Signal}
 use Rattle.service.specs.declared.Deadline.the-variants.{At, None as NoDeadline}
 use Rattle.service.specs.declared.Signal.the-variants.{Term}
@@ -21,7 +21,7 @@ use Rattle.rules.specs.Readings.{lone, scripts}
 use Rattle.rules.specs.Rules.{act, actOn, chosen, chosenFrom, due, fits, hands, leaves, lostToUser, nextAction}
 use Rattle.rules.specs.Runs.{actionAfter, earliest, stateAfter, stepsToQuiet, written, writtenActions, writtenServices}
 use Rattle.rules.specs.WellFormed.{formed, shapedAt, stateFormed, tableFormed}
-use Rattle.rules.specs.Worked.{answers, pair, process}
+use Rattle.rules.specs.Worked.{answers, pair}
 
 -- ---- "A lone wanted reader, restart yes, launched at 0 and falling at 10,000, 20,000, 30,000 is launched again"
 

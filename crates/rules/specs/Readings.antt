@@ -7,7 +7,7 @@ use Rattle.base.specs.Folds.{every, first, some}
 use Rattle.base.specs.Links.{cyclic, reach}
 use Rattle.base.specs.Sets.{hasBit, within}
 use Rattle.service.specs.Records.{freshState, recordAt, withRecord}
-use Rattle.service.specs.Settings.{settingsAt}
+use Rattle.service.specs.Settings.{process, settingsAt}
 use Rattle.service.specs.declared.Action.the-variants.{Launch, Moved, Quiet, Signal}
 use Rattle.service.specs.declared.Kind.the-variants.{Scripted}
 use Rattle.service.specs.declared.Settings.{Settings}
@@ -18,7 +18,7 @@ use Rattle.rules.specs.Dependencies.{allLinks, blocked, depends, hard, h
 use Rattle.rules.specs.Events.{afterClock, afterEnd, afterStart, afterStop, afterStopAll, each, endedAs, startReaches}
 use Rattle.rules.specs.Rules.{act, actOn, chosen, chosenFrom, due, fits, hands, leaves, lostToUser, nextAction}
 use Rattle.rules.specs.WellFormed.{formed, shapedAt, stateFormed, tableFormed}
-use Rattle.rules.specs.Worked.{answers, pair, process}
+use Rattle.rules.specs.Worked.{answers, pair}
 
 -- a scripted service that has ten units to start
 abbrev script : ℕ → Settings

@@ -19,7 +19,6 @@ use Rattle.service.specs.declared.Settings.{Settings}
 use Rattle.service.specs.declared.Record.{Record}
 use Rattle.service.specs.declared.State.{State}
 use Rattle.service.specs.declared.Table.{Table}
-use Rattle.service.specs.declared.Step.{Step}
 use Rattle.service.specs.Settings.{settingsAt}
 use Rattle.service.specs.Records.{recordAt, withRecord, isDown, isWaiting, isStarting, isUp, isEnding, isNone, isUser}
 use Rattle.rules.specs.declared.Rule.{Rule}
@@ -225,6 +224,11 @@ hands End t x s = endAction (settingsAt t s .kind) (settingsAt t s .signal) s
 hands Expire t x s = pick (isStarting (recordAt x s .phase)) (Signal s Int) (Signal s Kill)
 
 -- ---- the next action
+
+-- an action, and the state that it leaves
+pub record Step : Type 0 where
+  pub action : Action
+  pub state : State
 
 abbrev pub rules : List Rule
 rules = Lose ∷ Abandon ∷ Settle ∷ Wake ∷ Release ∷ Begin ∷ End ∷ Expire ∷ []

@@ -2,7 +2,6 @@
 use base::is_within;
 use reach::has_cycle;
 use reach::reach_of;
-use record_tests::all_links;
 use record_tests::is_none;
 use record_tests::is_process;
 use record_tests::is_scripted;
@@ -19,6 +18,7 @@ use service::Record;
 use service::Settings;
 use service::State;
 use service::Table;
+use service::all_links;
 ghost use mathlib.Core.Path.{_≡_};
 ghost use mathlib.Core.Bool.{_&&_};
 ghost use Prim.Native.Nat.{_≤_};
