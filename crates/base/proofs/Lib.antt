@@ -8,3 +8,4 @@ pub mod Words
 pub mod Filled
 pub mod Links
 pub mod Lists
+pub mod Counting
