@@ -21,7 +21,6 @@ use text::part;
 ghost use mathlib.Core.Path.{_≡_};
 ghost use Prim.Native.Nat.{_≤_, _<_};
 ghost use lib.Dec.{leb};
-ghost use lib.ListN.{replicate};
 ghost use lib.Bits.{bitOr};
 ghost use Rattle.base.specs.Folds.{pick, first};
 ghost use Rattle.base.specs.Sets.{hasBit};
@@ -30,12 +29,11 @@ ghost use Rattle.reach.specs.Rows.{rowsAs};
 ghost use Rattle.base.proofs.Filled.{Filled};
 ghost use Rattle.service.specs.Limits.{maxServices};
 ghost use Rattle.service.specs.Numbers.{signalAt};
-ghost use Rattle.service.specs.Settings.{defaultSettings};
 ghost use Rattle.description.specs.Settings.{wordAt, dependencyAt};
 ghost use Rattle.lent.specs.Parts.{nameAt, textAt};
 ghost use Rattle.lent.specs.Checks.{find};
 ghost use Rattle.lent.specs.declared.Answer.the-variants.{Accepted};
-ghost use Rattle.linking.specs.Links.{noLinks, withLink, linksFrom, kindAt, settingsOf, servicesFrom, servicesOn, noneMade, servicesIn, linksAt, lowestCyclic};
+ghost use Rattle.linking.specs.Links.{noLinks, withLink, linksFrom, kindAt, settingsOf, servicesFrom, servicesOn, servicesIn, linksAt, lowestCyclic};
 
 // The services that a service depends on, as sets: by depends-on, by depends-ms and by waits-for.
 pub struct Links {

@@ -11,12 +11,6 @@ use Rattle.value.proofs.Scans.{scanFrom, scan-end, scan-next, Fits, fit
 use borrow.Author.Needs.{needs}
 use Rattle.value.proofs.scan_value.Statement.{statement}
 use Rattle.value.proofs.scan_value.Tie as tie
-use Rattle.value.proofs.scan_value.Reads as reads
-use Rattle.value.proofs.scan_value.Lts as lts
-use Rattle.value.proofs.before.Reads as before-reads
-use Rattle.value.proofs.step_at.Reads as step-at-reads
-use Rattle.value.proofs.with_byte.Reads as with-byte-reads
-use Rattle.value.proofs.with_end.Reads as with-end-reads
 
 abbrev Inv-loop : tie.InvT-loop
 Inv-loop s m₀ z₀ quote₀ i₀ m z quote i = (i ≤ length s) × Fits z i × (scanFrom between 0 0 noSizes s ≡ scanFrom m quote i z (drop i s))

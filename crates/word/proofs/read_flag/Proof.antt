@@ -4,9 +4,6 @@ use Rattle.word.specs.Words.{flagOf}
 use borrow.Author.Needs.{needs}
 use Rattle.word.proofs.read_flag.Statement.{statement}
 use Rattle.word.proofs.read_flag.Tie as tie
-use Rattle.word.proofs.read_flag.Reads as reads
-use Rattle.word.proofs.read_flag.Lts as lts
-use Rattle.text.proofs.same_bytes.Reads as same-bytes-reads
 
 returns : tie.Need-returns
 unfolding flagOf

@@ -4,9 +4,6 @@ use Rattle.word.specs.Words.{noOf}
 use borrow.Author.Needs.{needs}
 use Rattle.word.proofs.read_no.Statement.{statement}
 use Rattle.word.proofs.read_no.Tie as tie
-use Rattle.word.proofs.read_no.Reads as reads
-use Rattle.word.proofs.read_no.Lts as lts
-use Rattle.text.proofs.same_bytes.Reads as same-bytes-reads
 
 returns : tie.Need-returns
 unfolding noOf

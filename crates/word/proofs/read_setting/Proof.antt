@@ -4,14 +4,6 @@ use Rattle.word.specs.Properties.{settingOf}
 use borrow.Author.Needs.{needs}
 use Rattle.word.proofs.read_setting.Statement.{statement}
 use Rattle.word.proofs.read_setting.Tie as tie
-use Rattle.word.proofs.read_setting.Reads as reads
-use Rattle.word.proofs.read_setting.Lts as lts
-use Rattle.word.proofs.read_flag.Reads as read-flag-reads
-use Rattle.word.proofs.read_kind.Reads as read-kind-reads
-use Rattle.word.proofs.read_limit.Reads as read-limit-reads
-use Rattle.word.proofs.read_no.Reads as read-no-reads
-use Rattle.word.proofs.read_signal.Reads as read-signal-reads
-use Rattle.word.proofs.read_time.Reads as read-time-reads
 
 returns : tie.Need-returns
 unfolding settingOf
