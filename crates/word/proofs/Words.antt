@@ -3,10 +3,9 @@ use mathlib.Core.Path.{_≡_}
 use mathlib.Core.Bool.{Bool, true, _&&_}
 use mathlib.Core.List.{List}
 use Prim.Native.Nat.{ℕ, _+_, _≤_, _<_}
-use native.Mathlib.Numerals.{add-one}
 use lib.ListN.{length, getD, drop, drop-of-length-le}
-use lib.Seq.{drop-cons}
 use borrow.Author.Tests.{lt-ltb, le-ltb}
+use Rattle.base.proofs.Counting.{drop-more}
 use Rattle.text.specs.Strings.{indexFrom}
 use Rattle.text.specs.Bytes.{isNameByte}
 use Rattle.word.specs.Words.{nameBytes, signalNames, signalOf}
@@ -19,7 +18,7 @@ module _ (s : List ℕ) (k : ℕ) where
 
   pub bytes-next : {t : Bool} → k < length s → isNameByte (getD s k 0) ≡ t → nameBytes (drop k s) ≡ t && nameBytes (drop (k + 1) s)
   unfolding nameBytes
-  bytes-next h e = rw (add-one k, drop-cons s k 0 h, e)
+  bytes-next h e = rw (drop-more s k 0 h, e)
 
 -- a signal by the place that was found
 pub signal-found : (w : List ℕ) {k : ℕ} → indexFrom w 0 signalNames ≡ k → k < 8 → signalOf w ≡ Value k

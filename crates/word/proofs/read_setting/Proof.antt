@@ -27,7 +27,11 @@ returns-5 c = c .read-signal .ensures ∙ rw (c .before .before .before .before 
 
 returns-6 : tie.Need-returns-6
 unfolding settingOf
-returns-6 c = c .read-time .ensures ∙ rw (c .before .before .before .before .before .if1 .left, c .before .before .before .before .if2 .left, c .before .before .before .if3 .left, c .before .before .if4 .left, c .before .if5 .left)
+returns-6 c = c .read-time .ensures ∙ rw (c .before .before .before .before .before .before .if1 .left, c .before .before .before .before .before .if2 .left, c .before .before .before .before .if3 .left, c .before .before .before .if4 .left, c .before .before .if5 .left, c .before .if6 .taken)
+
+returns-7 : tie.Need-returns-7
+unfolding settingOf
+returns-7 c = rw (c .before .before .before .before .before .if1 .left, c .before .before .before .before .if2 .left, c .before .before .before .if3 .left, c .before .before .if4 .left, c .before .if5 .left, c .if6 .left)
 
 pub read-setting-spec : {M : Type 1} → statement M
 read-setting-spec =
@@ -44,4 +48,5 @@ read-setting-spec =
     (λ c κs. search needs)
     returns-5
     (λ c κs. search needs)
-    returns-6)
+    returns-6
+    returns-7)
