@@ -115,7 +115,7 @@ fn read_line(text: &[u8], d: Description, from: usize, line: &[u8], o: Opening) 
     }
 }
 
-pub fn says_nothing(o: Opening) -> bool
+fn says_nothing(o: Opening) -> bool
     ensures { λ r. ⌜ r ≡ isSilent o ⌝ }
 {
     match o {
