@@ -14,9 +14,18 @@ pub struct Tokens {
     pub count: usize,
 }
 
+// Where those of a service's command and stop-command are.
 pub struct Commands {
     pub start: Tokens,
     pub stop: Tokens,
+}
+
+impl Commands {
+    // Those of a service that has neither.
+    pub const NONE: Commands = Commands {
+        start: Tokens { at: 0, count: 0 },
+        stop: Tokens { at: 0, count: 0 },
+    };
 }
 
 // How many tokens the command has whose value begins at an offset of a text. At 0 there is no command.
