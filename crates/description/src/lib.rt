@@ -104,8 +104,8 @@ pub fn write_word_at(text: &[u8], at: usize, buffer: &mut [u8]) -> usize
 fn is_dependency(text: &[u8], e: Dependency, property: usize, word: &[u8]) -> bool
     ensures { λ r. ⌜ r ≡ isDependency (now (text .entry)) e property (now (word .entry)) ⌝ }
 {
-    let other = e.property == property;
-    if other {
+    let alike = e.property == property;
+    if alike {
         let mut buffer = [0u8; WORD_ROOM];
         let n = write_word_at(text, e.at, &mut buffer);
         return same_bytes(part(&buffer, 0, n), word);
@@ -199,14 +199,14 @@ pub fn read_tokens(
     property: usize,
     at: usize,
     seen: usize,
-    z: Sizes,
+    sizes: Sizes,
     value: &[u8],
 ) -> Line
-    ensures { λ r. ⌜ r ≡ tokensRead (now (text .entry)) d property at seen z (now (value .entry)) ⌝ }
+    ensures { λ r. ⌜ r ≡ tokensRead (now (text .entry)) d property at seen sizes (now (value .entry)) ⌝ }
 {
     let command = (property == 1) | (property == 2);
     if command {
-        let good = 0 < z.first;
+        let good = 0 < sizes.first;
         if good {
             return Line::Good(Effect::Setting(property, at as u64));
         }
@@ -215,7 +215,7 @@ pub fn read_tokens(
             at: seen,
         });
     }
-    let single = (z.tokens == 1) & (0 < z.first) & (z.first <= LONGEST_WORD);
+    let single = (sizes.tokens == 1) & (0 < sizes.first) & (sizes.first <= LONGEST_WORD);
     if single {
         let mut buffer = [0u8; WORD_ROOM];
         let n = write_word(value, &mut buffer);

@@ -3,7 +3,7 @@ use Prim.Native.Nat.{_+_, _<_, _^_, _≤_, suc, zero, ℕ}
 use borrow.Author.Tests.{leb-true, ltb-true}
 use lib.Bits.{bitOr}
 use lib.Dec.{eqb, leb, ltb}
-use lib.ListN.{getD, length, replicate, set}
+use lib.ListN.{getD, replicate, set}
 use mathlib.Core.Bool.{Bool, false, true}
 use mathlib.Core.List.{List}
 use mathlib.Core.Path.{_≡_, refl}
@@ -27,15 +27,12 @@ use Rattle.text.specs.declared.Verdict.the-variants.{Bad as Bad, Good as Good}
 use Rattle.description.specs.Settings.{blank, dependencyAt, descriptionAt, wordAt}
 use Rattle.description.specs.Texts.{textRead}
 use Rattle.description.specs.declared.Description.{Description}
-use Rattle.lent.specs.Checks.{find, namesFrom, sizesFrom}
+use Rattle.lent.specs.Checks.{find}
 use Rattle.linking.specs.Links.{linksAt, linksFrom, lowestCyclic, noLinks, servicesFrom, servicesOn, settingsOf, withLink}
-use Rattle.loader.specs.Load.{Outcome as LoadOutcome, acyclic, load, loadSet, passed, stored, tested}
-use Rattle.lent.specs.Parts.{nameAt, positioned, serviceCount, textAt}
+use Rattle.loader.specs.Load.{acyclic}
+use Rattle.lent.specs.Parts.{nameAt, serviceCount, textAt}
 use Rattle.loader.specs.Texts.{descriptionsFrom, descriptionsOn, noDescriptions}
 use Rattle.loader.proofs.Outcomes.{every-load, setDescriptions, setServices}
-use Rattle.storing.specs.Tokens.{bytesFrom}
-use Rattle.lent.specs.declared.Answer.{Answer as LoadAnswer}
-use Rattle.lent.specs.declared.Answer.the-variants.{Accepted, Refused as LoadRefused}
 use Rattle.linking.specs.declared.Linked.{Linked}
 use Rattle.linking.specs.declared.Links.{Links}
 use Rattle.guarantee.specs.Guarantee.{LoadsFormed}

@@ -6,7 +6,6 @@ use lib.ListN.{List·getD-eq-default, getD, length, replicate, set}
 use mathlib.Core.Bool.{Bool, _&&_, false, true}
 use mathlib.Core.List.{List, []}
 use mathlib.Core.Path.{_∙_, _≡_, ap, refl, sym}
-use native.Mathlib.Omega.{arith}
 use Rattle.base.specs.Folds.{pick}
 use Rattle.base.specs.Sets.{single}
 use Rattle.base.proofs.Counting.{one-left}

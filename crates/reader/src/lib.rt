@@ -75,7 +75,7 @@ fn read_property(text: &[u8], d: Description, from: usize, line: &[u8], s: Place
 {
     let start = from + s.from;
     let v = s.value;
-    let unknown = p == 14;
+    let unknown = p == PROPERTIES;
     if unknown {
         return Line::Bad(Fault {
             number: 10,
