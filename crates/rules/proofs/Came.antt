@@ -42,15 +42,13 @@ module _ (t : Table) (x : State) where
 
   pub came : (c : Call) → Came t x c (outcome t x c)
   unfolding outcome
-  came (start s) = checked _ (formed t x) _ _ λ _. checked _ (ltb s (t .count)) _ _ λ l. starts (ltb-true _ _ l)
-  came (stop s) = checked _ (formed t x) _ _ λ _. checked _ (ltb s (t .count)) _ _ λ l. stops (ltb-true _ _ l)
-  came (clock n) =
-      checked _ (formed t x) _ _ λ _. checked _ (leb (x .clock) n) _ _ λ l. checked _ (leb n lastClock) _ _ λ m. clocks (leb-true _ _ l) (leb-true _ _ m)
-  came (end s good) =
-      checked _ (formed t x) _ _ λ _. checked _ (ltb s (t .count)) _ _ λ l. checked _ (recordAt x s .live) _ _ λ lives. ends (ltb-true _ _ l) lives
-  came stopAll = checked _ (formed t x) _ _ λ _. stops-all
-  came next = checked _ (formed t x) _ _ λ _. acts
-  came query = checked _ (formed t x) _ _ λ _. tells
+  came (start s) = checked _ _ _ _ λ a. checked _ _ _ _ λ b. starts (search ltb-true)
+  came (stop s) = checked _ _ _ _ λ a. checked _ _ _ _ λ b. stops (search ltb-true)
+  came (clock n) = checked _ _ _ _ λ a. checked _ _ _ _ λ b. checked _ _ _ _ λ c. clocks (search leb-true) (search leb-true)
+  came (end s good) = checked _ _ _ _ λ a. checked _ _ _ _ λ b. checked _ _ _ _ λ c. ends (search ltb-true) c
+  came stopAll = checked _ _ _ _ λ a. stops-all
+  came next = checked _ _ _ _ λ a. acts
+  came query = checked _ _ _ _ λ a. tells
   came (run ss as′) =
-      checked _ (formed t x) _ _ λ _. checked _ (leb (4 * t .count) (length ss) && leb (4 * t .count) (length as′)) _ _ λ r.
-      let q = and-true (leb (4 * t .count) (length ss)) _ .0 r in runs (leb-true _ _ (q .0)) (leb-true _ _ (q .1))
+      checked _ _ _ _ λ a. checked _ (leb (4 * t .count) (length ss) && leb (4 * t .count) (length as′)) _ _ λ b.
+      let q = and-true (leb (4 * t .count) (length ss)) _ .0 b in runs (leb-true _ _ (q .0)) (leb-true _ _ (q .1))
