@@ -1,5 +1,5 @@
 -- Sets that a loop gathers as bits, and what is asked of them: the laws that turn a test on sets into a test on services.
-use Prim.Native.Nat.{ℕ, zero, suc, _+_, _-_, _*_, _/_, _%_, _^_, _<_}
+use Prim.Native.Nat.{ℕ, zero, suc, _+_, _*_, _/_, _%_, _^_, _<_}
 use native.Mathlib.Nat.{not-suc-le-zero, le-of-suc-le-suc, le-refl, lt-of-le-of-lt, lt-of-lt-of-le, eq-or-lt-of-le, mod-eq-of-lt, mod-one, one-mul, zero-add, zero-mul, add-zero}
 use native.Mathlib.Omega.{arith}
 use mathlib.Core.Path.{_≡_, refl, sym, ap, _∙_}

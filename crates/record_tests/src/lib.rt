@@ -3,7 +3,6 @@ use service::Cause;
 use service::Kind;
 use service::Phase;
 use service::Record;
-use service::Settings;
 ghost use mathlib.Core.Path.{_≡_};
 ghost use Rattle.service.specs.Settings.{isProcess, isScripted};
 ghost use Rattle.service.specs.Records.{isDown, isWaiting, isStarting, isUp, isEnding, active, isNone, isUser};
@@ -133,7 +132,9 @@ pub fn is_serving(r: Record) -> bool
 {
     let p = r.phase;
     let c = r.cause;
-    is_up(p) & is_none(c)
+    let up = is_up(p);
+    let free = is_none(c);
+    up & free
 }
 
 // Up with a cause.

@@ -4,6 +4,7 @@ pub mod Fitting
 pub mod Along
 pub mod Next
 pub mod Each
+pub mod Came
 pub mod Keeps
 pub mod Formed
 pub mod Runs

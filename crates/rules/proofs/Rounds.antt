@@ -1,8 +1,7 @@
 -- The rounds: after a stop all, each round after the first takes down a service, so n + 1 rounds take all down.
-use Prim.Native.Nat.{_*_, _+_, _<_, _≤_, suc, zero, ℕ}
+use Prim.Native.Nat.{_+_, _<_, _≤_, suc, zero, ℕ}
 use borrow.Author.Tests.{le-leb}
-use lib.Dec.{leb, lit<, lit≤, ltb}
-use lib.ListN.{length}
+use lib.Dec.{lit<, lit≤}
 use mathlib.Core.Bool.{Bool, _&&_, _||_, false, not, true}
 use mathlib.Core.List.{List, [], _++_, _∷_}
 use mathlib.Core.Logic.{_⊎_, inl, inr}
@@ -11,11 +10,10 @@ use native.Mathlib.Nat.{eq-or-lt-of-le, le-of-suc-le-suc, le-refl, le-trans, not
 use native.Mathlib.Omega.{arith}
 use Rattle.base.specs.Folds.{pick, some, sum}
 use Rattle.base.specs.Links.{Path, link}
-use Rattle.base.proofs.Below.{Sought, found, nowhere, some-false, some-true, sought}
+use Rattle.base.proofs.Below.{some-false, some-true}
 use Rattle.base.proofs.Links.{join}
 use Rattle.base.proofs.Sums.{sum-bound, sum-le, sum-lt, sum-term}
 use Rattle.base.proofs.Tests.{either, no-ft, not-both, not-false, not-true, or-not, refute, tests}
-use Rattle.service.specs.Limits.{lastClock}
 use Rattle.service.specs.Numbers.{isQuiet}
 use Rattle.service.specs.Records.{active, isDown, isEnding, isStarting, isUp, isUser, recordAt}
 use Rattle.service.specs.Settings.{settingsAt}
@@ -29,14 +27,15 @@ use Rattle.service.specs.declared.Table.{Table}
 use Rattle.service.proofs.Finite.{bools, finite, given, phases}
 use Rattle.service.proofs.Named.{is-ending}
 use Rattle.service.proofs.States.{Sized, with-same}
-use Rattle.rules.specs.Calls.{Answer, Call, Outcome, acted, check, clock, done, end, gives, next, outcome, ran, refused, run, told}
+use Rattle.rules.specs.Calls.{Answer, Call, Outcome, acted, clock, done, end, next, outcome, ran, refused, run, told}
 use Rattle.rules.specs.Demand.{Clear, NoZeroTimeout, Now, Reported, Rests, Round, Rounds, Stretch, ToQuiet, accepted, another, by-run, call, empty, freshNow, here, isRefused, isStart, no-rounds, nowAfter, recorded, round, sent, singly, there}
 use Rattle.rules.specs.Dependencies.{blocked, hard, hardLinks}
 use Rattle.rules.specs.Events.{afterClock, afterEnd, endedAs}
-use Rattle.rules.specs.Rules.{Step, due, nextAction}
-use Rattle.rules.specs.Runs.{actionAfter, stateAfter, stepsToQuiet, writtenActions, writtenServices}
-use Rattle.rules.specs.WellFormed.{formed, shapedAt, tableFormed}
+use Rattle.rules.specs.Rules.{Step, due}
+use Rattle.rules.specs.Runs.{actionAfter, stateAfter, stepsToQuiet}
+use Rattle.rules.specs.WellFormed.{shapedAt, tableFormed}
 use Rattle.rules.specs.declared.Rule.the-variants.{End, Expire}
+use Rattle.rules.proofs.Came.{Came, acts, came, clocks, ends, refuses, runs}
 use Rattle.rules.proofs.Doom.{Drift, doomed-active, doomed-user, drift-call, drift-here}
 use Rattle.rules.proofs.Fed.{call-leads}
 use Rattle.rules.proofs.Fitting.{end-fits, expire-fits}
@@ -45,7 +44,7 @@ use Rattle.rules.proofs.Held.{Unblocked, unblocked}
 use Rattle.rules.proofs.Links.{TableSound, no-hard-cycle}
 use Rattle.rules.proofs.Next.{Stays}
 use Rattle.rules.proofs.Recorded.{Good}
-use Rattle.rules.proofs.Resting.{quiet-stays, rests-everywhere}
+use Rattle.rules.proofs.Resting.{quiet-stays, rests-everywhere, steps-quiet}
 use Rattle.rules.proofs.Safety.{fresh-good, good-feeds}
 use Rattle.rules.proofs.SentKill.{KilledSent, fresh-sent, sent-feeds}
 use Rattle.rules.proofs.Shapes.{active-not-down, down-dead, ending-lives, user-caused}
@@ -135,49 +134,30 @@ one-unblocked t ts x s sl d =
 -- ---- what an accepted clock reading, end and run do
 
 clock-state : (t : Table) (x : State) (n : ℕ) → accepted t x (clock n) ≡ true → outcome t x (clock n) .state ≡ afterClock x n
-unfolding outcome check accepted
-clock-state t x n a = go (formed t x) (leb (x .clock) n) (leb n lastClock) a
+unfolding accepted
+clock-state t x n a = go (came t x (clock n)) a
   where
-    go : (b c d : Bool)
-        → not (isRefused (check (clock n) x b 24 (check (clock n) x c 22 (check (clock n) x d 23 (gives (clock n) done (afterClock x n)))) .answer)) ≡ true
-        → check (clock n) x b 24 (check (clock n) x c 22 (check (clock n) x d 23 (gives (clock n) done (afterClock x n)))) .state ≡ afterClock x n
-    go true true true e = refl
-    go true true false e = no-ft e
-    go true false d e = no-ft e
-    go false c d e = no-ft e
+    go : {o : Outcome} → Came t x (clock n) o → not (isRefused (o .answer)) ≡ true → o .state ≡ afterClock x n
+    go (refuses k) e = no-ft e
+    go (clocks l m) e = refl
 
 end-state : (t : Table) (x : State) (s : ℕ) (good : Bool) → accepted t x (end s good) ≡ true
     → (recordAt x s .live ≡ true) × (outcome t x (end s good) .state ≡ afterEnd t x s good)
-unfolding outcome check accepted
-end-state t x s good a = go (formed t x) (ltb s (t .count)) (recordAt x s .live) a
+unfolding accepted
+end-state t x s good a = go (came t x (end s good)) a
   where
-    go : (b c d : Bool)
-        → not (isRefused (check (end s good) x b 24 (check (end s good) x c 20 (check (end s good) x d 21 (gives (end s good) done (afterEnd t x s good)))) .answer)) ≡ true
-        → (d ≡ true) × (check (end s good) x b 24 (check (end s good) x c 20 (check (end s good) x d 21 (gives (end s good) done (afterEnd t x s good)))) .state ≡ afterEnd t x s good)
-    go true true true e = (refl, refl)
-    go true true false e = no-ft e
-    go true false d e = no-ft e
-    go false c d e = no-ft e
+    go : {o : Outcome} → Came t x (end s good) o → not (isRefused (o .answer)) ≡ true → (recordAt x s .live ≡ true) × (o .state ≡ afterEnd t x s good)
+    go (refuses k) e = no-ft e
+    go (ends l lives) e = (lives, refl)
 
 run-state : (t : Table) (x : State) (ss as′ : List ℕ) → accepted t x (run ss as′) ≡ true → outcome t x (run ss as′) .state ≡ stateAfter t x (stepsToQuiet t x)
-unfolding outcome check accepted
-run-state t x ss as′ a = go (formed t x) (leb (4 * t .count) (length ss) && leb (4 * t .count) (length as′)) a
+unfolding accepted
+run-state t x ss as′ a = go (came t x (run ss as′)) a
   where
-    ranOut : Outcome
-    ranOut = record {
-      answer = ran (stepsToQuiet t x);
-      state = stateAfter t x (stepsToQuiet t x);
-      services = writtenServices t x ss;
-      actions = writtenActions t x as′;
-    }
+    go : {o : Outcome} → Came t x (run ss as′) o → not (isRefused (o .answer)) ≡ true → o .state ≡ stateAfter t x (stepsToQuiet t x)
+    go (refuses k) e = no-ft e
+    go (runs l m) e = refl
 
-    go : (b c : Bool) → not (isRefused (check (run ss as′) x b 24 (check (run ss as′) x c 25 ranOut) .answer)) ≡ true
-        → check (run ss as′) x b 24 (check (run ss as′) x c 25 ranOut) .state ≡ stateAfter t x (stepsToQuiet t x)
-    go true true e = refl
-    go true false e = no-ft e
-    go false c e = no-ft e
-
--- a quiet answer leaves the state, in which no rule fits
 abbrev quietly : Answer → Bool
 quietly (refused k) = false
 quietly done = false
@@ -185,30 +165,18 @@ quietly (acted a) = isQuiet a
 quietly (ran n) = false
 quietly (told d) = false
 
+-- a quiet answer leaves the state, in which no rule fits
 next-quiet : (t : Table) (x : State) → outcome t x next .answer ≡ acted Quiet → (outcome t x next .state ≡ x) × Stays t x
-unfolding outcome check
-next-quiet t x a = go (formed t x) (ap quietly a)
+next-quiet t x a = go (came t x next) (ap quietly a)
   where
-    go : (b : Bool) → quietly (check next x b 24 (gives next (acted (nextAction t x .action)) (nextAction t x .state)) .answer) ≡ true
-        → (check next x b 24 (gives next (acted (nextAction t x .action)) (nextAction t x .state)) .state ≡ x) × Stays t x
-    go true e = let q = quiet-stays t x e in (ap (λ (o : Step). o .state) (q .does), q)
-    go false e = no-ft e
+    go : {o : Outcome} → Came t x next o → quietly (o .answer) ≡ true → (o .state ≡ x) × Stays t x
+    go (refuses k) e = no-ft e
+    go acts e = let q = quiet-stays t x e in (ap (λ (o : Step). o .state) (q .does), q)
 
 -- a run to quiet comes to quiet
 run-quiet : (t : Table) (x : State) → Rests t x → Stays t (stateAfter t x (stepsToQuiet t x))
-unfolding stepsToQuiet actionAfter
-run-quiet t x h = quiet-stays t _ (go (sought (λ k. isQuiet (actionAfter t x k)) (4 * t .count)))
-  where
-    go : {i : ℕ} → Sought (λ k. isQuiet (actionAfter t x k)) (4 * t .count) i → isQuiet (actionAfter t x i) ≡ true
-    go (found {i} l) = l .passes
-    go (nowhere n) =
-        let q = h .quiet in
-        let e : q .0 ≡ 4 * t .count =
-        either
-        (eq-or-lt-of-le (q .1))
-        (λ e. e)
-        (λ m. absurd (not-both (ap isQuiet (q .2)) (n (q .0) m))) in
-        rw (← e) (ap isQuiet (q .2))
+unfolding actionAfter
+run-quiet t x h = quiet-stays t _ (steps-quiet t x h)
 
 less : (a b : Bool) → (a ≡ true → b ≡ true) → pick b 0 1 ≤ pick a 0 1
 less true true h = le-refl 0

@@ -9,7 +9,6 @@ use Rattle.service.specs.declared.Signal.the-variants.{Term}
 use Rattle.service.specs.declared.State.{State}
 use Rattle.service.specs.declared.Table.{Table}
 use Rattle.rules.specs.Calls.{Answer, Call, acted, clock, done, end, next, outcome, start}
-use Rattle.rules.specs.Dependencies.{hard, soft}
 
 -- the answers to a list of calls
 unfoldable pub answers : Table → State → List Call → List Answer

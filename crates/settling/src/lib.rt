@@ -13,7 +13,7 @@ ghost use Prim.Native.Nat.{suc, _≤_};
 ghost use Rattle.base.specs.Folds.{pick};
 ghost use Rattle.service.specs.Limits.{maxCount};
 ghost use Rattle.service.specs.declared.Cause.the-variants.{Fell};
-ghost use Rattle.rules.specs.Settling.{windowOver, settled, settledAs};
+ghost use Rattle.rules.specs.Settling.{settled, settledAs};
 ghost use Rattle.rules.specs.Events.{withCause};
 ghost use Rattle.rules.specs.Rules.{withPhase};
 ghost use Rattle.settling.specs.Sound.{sound, Sound, atRest};
