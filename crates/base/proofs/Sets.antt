@@ -8,7 +8,7 @@ use mathlib.Core.Logic.{_⊎_, inl, inr}
 use lib.Dec.{eqb, eqb·suc-zero}
 use lib.Pow.{pow-pos, pow-mono, pow-lt, mod-pow-add, shl-exact}
 use lib.Bits.{bitAnd, and-le-r, or-lt}
-use Rattle.base.specs.Folds.{some, first, firstFrom}
+use Rattle.base.specs.Folds.{implies, some, every, first, firstFrom}
 use Rattle.base.specs.Sets.{hasBit, single, kept, overlap, marked, union}
 use Rattle.base.proofs.Tests.{and-all, and-none, either, or-all, or-none}
 use Rattle.base.proofs.Below.{some-as, first-as}
@@ -114,13 +114,13 @@ marked-first p n = first-as (hasBit (marked p n)) p n (λ i l. marked-bit p n i 
 pub shifted-one : (i : ℕ) (b : Bool) → i < 64 → b ≡ true → 1 * 2 ^ i % 2 ^ 64 ≡ single i b
 shifted-one i b l e = shl-exact 1 i 64 (omega arith) (omega arith) ∙ one-mul (2 ^ i) ∙ rw e
 
-three : (a b : ℕ) → (a ≡ b) ⊎ ((a < b) ⊎ (b < a))
-three zero zero = inl refl
-three zero (suc b) = inr (inl (omega arith))
-three (suc a) zero = inr (inr (omega arith))
-three (suc a) (suc b) =
+compared : (a b : ℕ) → (a ≡ b) ⊎ ((a < b) ⊎ (b < a))
+compared zero zero = inl refl
+compared zero (suc b) = inr (inl (omega arith))
+compared (suc a) zero = inr (inr (omega arith))
+compared (suc a) (suc b) =
     either
-    (three a b)
+    (compared a b)
     (λ (q : a ≡ b). inl (ap suc q))
     (λ o. either o (λ (q : a < b). inr (inl (omega arith))) (λ (q : b < a). inr (inr (omega arith))))
 
@@ -129,10 +129,33 @@ pub single-only : (i s : ℕ) (b : Bool) → hasBit (single i b) s ≡ true → 
 single-only i s false e = absurd (false≢true (sym (hasBit-none s) ∙ e))
 single-only i s true e =
     either
-    (three s i)
+    (compared s i)
     (λ (q : s ≡ i). (q, refl))
     (λ o.
     either
     o
     (λ (q : s < i). absurd (false≢true (sym (power-over i s q) ∙ e)))
     (λ (q : i < s). absurd (false≢true (sym (hasBit-small (2 ^ i) s (pow-lt q)) ∙ e))))
+
+-- ---- a test on sets, asked the other way round
+
+implied : (a b : Bool) → not (a && not b) ≡ implies a b
+implied true true = refl
+implied true false = refl
+implied false b = refl
+
+not-or : (a b : Bool) → not (a || b) ≡ (not a && not b)
+not-or true b = refl
+not-or false b = refl
+
+-- q holds at every number below n where p holds at none of them
+pub none-every : (p q : ℕ → Bool) (n : ℕ) → ((i : ℕ) → not (p i) ≡ q i) → not (some p n) ≡ every q n
+unfolding some every
+none-every p q zero h = refl
+none-every p q (suc n) h = not-or (some p n) (p n) ∙ rw (none-every p q n h, h n)
+
+-- for dependencies: every d below n in m has p
+pub marked-disjoint : (p : ℕ → Bool) (m n : ℕ) → not (overlap m (marked (λ d. not (p d)) n)) ≡ every (λ d. implies (hasBit m d) (p d)) n
+marked-disjoint p m n =
+    ap not (marked-overlap (λ d. not (p d)) m n)
+    ∙ none-every (λ d. hasBit m d && not (p d)) (λ d. implies (hasBit m d) (p d)) n (λ d. implied (hasBit m d) (p d))

@@ -13,7 +13,7 @@ use Rattle.service.specs.declared.State.{State}
 use Rattle.rules.specs.WellFormed.{formed}
 use Rattle.rules.specs.Runs.{earliest, soonerOf}
 use Rattle.rules.specs.Calls.{query, check, outcome, queryOutcome}
-use Rattle.settling.proofs.Formed.{few}
+use Rattle.rules.proofs.Formed.{formed-few}
 
 pub record Asking (t : Table) (x : State) (d : Deadline) (i : ℕ) : Type 0 where
   pub passed : formed t x ≡ true
@@ -23,7 +23,7 @@ pub record Asking (t : Table) (x : State) (d : Deadline) (i : ℕ) : Type 0 wher
 module _ {t : Table} {x : State} where
   -- q is what the code found of list 24
   pub asking-none : {q : Bool} → q ≡ formed t x → q ≡ true → Asking t x NoDeadline 0
-  asking-none e h = record { passed = sym e ∙ h; few = few t x (sym e ∙ h); folded = folded-none }
+  asking-none {q} e h = record { passed = sym e ∙ h; few = formed-few t x q e h; folded = folded-none }
 
   pub asking-more : {d e : Deadline} {i : ℕ} → Asking t x d i → i < t .count → e ≡ soonerOf (x .clock) d (recordAt x i) → Asking t x e (i + 1)
   asking-more h l e = record { passed = h .passed; few = h .few; folded = folded-more (h .folded) l e }

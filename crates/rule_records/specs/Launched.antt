@@ -1,4 +1,4 @@
--- Rule 6 with what it depends on the type for given.
+-- Rule 6 for any type: with the phase, live and the deadline given.
 use Prim.Native.Nat.{ℕ}
 use mathlib.Core.Bool.{Bool}
 use Rattle.service.specs.declared.Phase.{Phase}

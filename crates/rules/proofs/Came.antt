@@ -1,7 +1,7 @@
 -- What a call comes to: a refusal, or what it does once its checks have passed.
 use Prim.Native.Nat.{_*_, _<_, _≤_, ℕ}
 use borrow.Author.Tests.{leb-true, ltb-true}
-use lib.Dec.{leb, ltb}
+use lib.Dec.{leb}
 use lib.ListN.{length}
 use mathlib.Core.Bool.{Bool, _&&_, false, true}
 use mathlib.Core.List.{List}
@@ -15,7 +15,6 @@ use Rattle.rules.specs.Calls.{Call, Outcome, acted, check, clock, done, 
 use Rattle.rules.specs.Events.{afterClock, afterEnd, afterStart, afterStop, afterStopAll}
 use Rattle.rules.specs.Rules.{nextAction}
 use Rattle.rules.specs.Runs.{earliest, stateAfter, stepsToQuiet, writtenActions, writtenServices}
-use Rattle.rules.specs.WellFormed.{formed}
 
 pub data Came (t : Table) (x : State) : Call → Outcome → Type 0 where
   refuses : {c : Call} (k : ℕ) → Came t x c (gives c (refused k) x)

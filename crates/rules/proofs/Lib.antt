@@ -1,3 +1,4 @@
+-- The laws, each file after those that it cites.
 pub mod Shapes
 pub mod Links
 pub mod Fitting
@@ -22,7 +23,7 @@ pub mod StageWeights
 pub mod Stages
 pub mod Resting
 pub mod Timed
-pub mod Doom
+pub mod Halting
 pub mod SentKill
 pub mod Rounds
 pub mod Demand

@@ -3,6 +3,8 @@
 use lib.ListN.{replicate}
 use mathlib.Core.Bool.{false, true}
 use mathlib.Core.List.{List, [], _∷_}
+use mathlib.Core.Path.{_≡_}
+use Rattle.service.specs.Records.{freshState}
 use Rattle.service.specs.Settings.{defaultSettings, process}
 use Rattle.service.specs.declared.Action.the-variants.{Launch, Moved, Quiet, Signal}
 use Rattle.service.specs.declared.Signal.the-variants.{Term}
@@ -14,6 +16,19 @@ use Rattle.rules.specs.Calls.{Answer, Call, acted, clock, done, end, nex
 unfoldable pub answers : Table → State → List Call → List Answer
 answers t x [] = []
 answers t x (c ∷ cs) = outcome t x c .answer ∷ answers t (outcome t x c .state) cs
+
+-- calls from the fresh state of a table, and the answers that they must give
+pub record Played : Type 0 where
+  pub table : Table
+  pub calls : List Call
+  pub given : List Answer
+
+abbrev pub played : Table → List Call → List Answer → Played
+played t cs as′ = record { table = t; calls = cs; given = as′ }
+
+abbrev pub AllGiven : List Played → Type 0
+AllGiven [] = Unit {0}
+AllGiven (p ∷ ps) = (answers (p .table) freshState (p .calls) ≡ p .given) × AllGiven ps
 
 -- "0 reader, process; 1 averager, process, hard on 0; both restart"
 abbrev pub pair : Table

@@ -1,4 +1,5 @@
-// Settling: the record of a service that has ended, by its cause, with the restart window, limit and delay.
+// Settling: the record of a service that has ended, by its cause, with the restart window, limit and delay. Beside it what other changes
+// of a record share: the test of its times, and a record with another cause, with another phase, or at rest.
 use service::Cause;
 use service::Deadline;
 use service::LAST_CLOCK;

@@ -117,7 +117,8 @@ fn link_rows(t: Table) -> [u64; MAX_SERVICES]
 }
 
 // The table and the state are well formed, the cycle included. Both loops stand here, since a function of its own for one of them
-// would copy the table once more in every call of the engine.
+// would copy the table once more in every call of the engine. One loop for both gains at 2 and 8 services and loses at 32
+// (docs/BENCHMARKS.md).
 pub fn is_formed(t: Table, x: State) -> bool
     ensures { λ b. ⌜ b ≡ formed t x ⌝ }
 {

@@ -3,7 +3,7 @@ use borrow.Author.Needs.{needs}
 use mathlib.Core.Path.{_∙_, refl, sym}
 use native.Mathlib.Omega.{arith}
 use Rattle.rules.specs.Calls.{check, outcome}
-use Rattle.settling.proofs.Formed.{formed-few}
+use Rattle.rules.proofs.Formed.{formed-few}
 use Rattle.engine.proofs.Running.{next-done}
 use borrow.Author.Needs.{needs}
 use Rattle.engine.proofs.next_action.Statement.{statement}

@@ -6,7 +6,7 @@ use lib.ListN.{length}
 use borrow.Author.Tests.{le-leb, lt-leb}
 use Rattle.base.proofs.Lists.{length-mapped}
 use Rattle.rules.specs.Calls.{check, outcome}
-use Rattle.settling.proofs.Formed.{formed-few}
+use Rattle.rules.proofs.Formed.{formed-few}
 use Rattle.engine.proofs.Running.{run-done, run-rested}
 use borrow.Author.Needs.{needs}
 use Rattle.engine.proofs.run_to_quiet.Statement.{statement}

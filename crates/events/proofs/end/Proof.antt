@@ -3,7 +3,7 @@ use borrow.Author.Tests.{lt-ltb, le-ltb}
 use Rattle.service.specs.Settings.{settingsAt}
 use Rattle.service.specs.Records.{recordAt, withRecord}
 use Rattle.rules.specs.Calls.{check, outcome}
-use Rattle.settling.proofs.Formed.{formed-few}
+use Rattle.rules.proofs.Formed.{formed-few}
 use Rattle.events.proofs.Accepted.{end-done}
 use borrow.Author.Needs.{needs}
 use Rattle.events.proofs.end.Statement.{statement}

@@ -10,7 +10,7 @@ use Rattle.base.proofs.Loops.{Folded, folded-none, folded-more, folded-all}
 use Rattle.service.specs.Records.{recordAt, withRecord}
 use Rattle.rules.specs.Events.{each, startedAs}
 use Rattle.rules.specs.Calls.{check, outcome}
-use Rattle.settling.proofs.Formed.{formed-few}
+use Rattle.rules.proofs.Formed.{formed-few}
 use Rattle.events.proofs.Accepted.{start-done}
 use Rattle.events.proofs.start.Statement.{statement}
 use Rattle.events.proofs.start.Tie as tie

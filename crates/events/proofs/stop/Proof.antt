@@ -2,7 +2,7 @@
 use Prim.Native.Nat.{_≤_}
 use Rattle.service.specs.Limits.{maxServices}
 use Rattle.service.specs.Records.{recordAt, withRecord}
-use Rattle.settling.proofs.Formed.{formed-few}
+use Rattle.rules.proofs.Formed.{formed-few}
 use Rattle.events.proofs.Accepted.{stop-done, stop-absent, stop-ill}
 use borrow.Author.Needs.{needs}
 use Rattle.events.proofs.stop.Statement.{statement}

@@ -7,7 +7,7 @@ use Rattle.base.proofs.Loops.{Folded, folded-none, folded-more, folded-all}
 use Rattle.service.specs.Records.{recordAt, withRecord}
 use Rattle.rules.specs.Events.{each, stopped}
 use Rattle.rules.specs.Calls.{check, outcome}
-use Rattle.settling.proofs.Formed.{formed-few}
+use Rattle.rules.proofs.Formed.{formed-few}
 use Rattle.events.proofs.Accepted.{stop-all-done}
 use Rattle.events.proofs.stop_all.Statement.{statement}
 use Rattle.events.proofs.stop_all.Tie as tie
