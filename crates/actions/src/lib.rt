@@ -10,8 +10,7 @@ use service::Signal;
 ghost use Prim.Native.Nat.{_+_};
 ghost use mathlib.Core.Path.{_≡_};
 ghost use Rattle.service.specs.Numbers.{signalPlace, isQuiet, actionService, actionNumber};
-ghost use Rattle.rules.specs.Rules.{begunAction, termAction, endAction};
-ghost use Rattle.actions.specs.Handed.{expiredAction, handedBy};
+ghost use Rattle.rules.specs.Rules.{begunAction, termAction, endAction, expiredAction, handedBy};
 
 // Rule 6.
 fn begun_action(k: Kind, s: usize) -> Action

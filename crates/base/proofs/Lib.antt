@@ -1,3 +1,4 @@
+-- The laws, each file after those that it cites.
 pub mod Tests
 pub mod Below
 pub mod Loops
@@ -8,3 +9,4 @@ pub mod Words
 pub mod Filled
 pub mod Links
 pub mod Lists
+pub mod Counting

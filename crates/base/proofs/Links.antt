@@ -2,25 +2,21 @@
 -- a number to itself.
 use Prim.Native.Nat.{ℕ, zero, suc, _<_}
 use native.Mathlib.Nat.{not-suc-le-zero, le-of-suc-le-suc, eq-or-lt-of-le}
-use mathlib.Core.Path.{_≡_, refl, sym, _∙_}
+use mathlib.Core.Path.{_≡_, sym, _∙_}
 use mathlib.Core.Bool.{Bool, true, false, _||_, _&&_}
 use mathlib.Core.Logic.{_↔_, _⊎_, inl, inr}
 use lib.Bits.{bitOr}
 use Rattle.base.specs.Folds.{pick}
 use Rattle.base.specs.Sets.{hasBit}
 use Rattle.base.specs.Links.{Path, link, on, reach, through, cyclic}
-use Rattle.base.proofs.Tests.{and-true, or-true, either, not-both}
+use Rattle.base.proofs.Tests.{and-true, or-none, or-true, either, not-both}
 use Rattle.base.proofs.Below.{some-true}
 use Rattle.base.proofs.Bits.{hasBit-or}
 
 -- what is in a set that was joined with another where it has k
 through-bit : (q : Bool) (a b j : ℕ) → hasBit (pick q (bitOr a b) a) j ≡ (hasBit a j || (q && hasBit b j))
 through-bit true a b j = hasBit-or a b j
-through-bit false a b j = or-none (hasBit a j)
-  where
-    or-none : (x : Bool) → x ≡ (x || false)
-    or-none true = refl
-    or-none false = refl
+through-bit false a b j = sym (or-none (hasBit a j))
 
 module _ (k a b j : ℕ) where
   pub through-kept : hasBit a j ≡ true → hasBit (through k a b) j ≡ true

@@ -1,4 +1,4 @@
--- Lists that are given by a function of the place.
+-- Lists by their places: given by a function of the place, changed at one, of copies, or mapped.
 use Prim.Native.Nat.{_<_, suc, zero, ℕ}
 use lib.ListN.{getD, length, length-map, replicate, set}
 use mathlib.Core.List.{List, [], _∷_, map}

@@ -1,5 +1,5 @@
 -- Sets that a loop gathers as bits, and what is asked of them: the laws that turn a test on sets into a test on services.
-use Prim.Native.Nat.{ℕ, zero, suc, _+_, _-_, _*_, _/_, _%_, _^_, _<_}
+use Prim.Native.Nat.{ℕ, zero, suc, _+_, _*_, _/_, _%_, _^_, _<_}
 use native.Mathlib.Nat.{not-suc-le-zero, le-of-suc-le-suc, le-refl, lt-of-le-of-lt, lt-of-lt-of-le, eq-or-lt-of-le, mod-eq-of-lt, mod-one, one-mul, zero-add, zero-mul, add-zero}
 use native.Mathlib.Omega.{arith}
 use mathlib.Core.Path.{_≡_, refl, sym, ap, _∙_}
@@ -8,25 +8,17 @@ use mathlib.Core.Logic.{_⊎_, inl, inr}
 use lib.Dec.{eqb, eqb·suc-zero}
 use lib.Pow.{pow-pos, pow-mono, pow-lt, mod-pow-add, shl-exact}
 use lib.Bits.{bitAnd, and-le-r, or-lt}
-use Rattle.base.specs.Folds.{some, first, firstFrom}
+use Rattle.base.specs.Folds.{implies, some, every, first, firstFrom}
 use Rattle.base.specs.Sets.{hasBit, single, kept, overlap, marked, union}
-use Rattle.base.proofs.Tests.{either}
+use Rattle.base.proofs.Tests.{and-all, and-none, either, or-all, or-none}
 use Rattle.base.proofs.Below.{some-as, first-as}
 use Rattle.base.proofs.Bits.{hasBit-or, hasBit-and, hasBit-none, hasBit-small, power-at, power-over}
 
 -- a digit at k and what is below it are 0 together where both are
 digit-zero : (d q r : ℕ) → 0 < q → d < 2 → not (eqb (d * q + r) 0) ≡ (not (eqb r 0) || eqb d 1)
-digit-zero zero q r h l = ap (λ m. not (eqb m 0)) (ap (λ m. m + r) (zero-mul q) ∙ zero-add r) ∙ or-none (not (eqb r 0))
+digit-zero zero q r h l = ap (λ m. not (eqb m 0)) (ap (λ m. m + r) (zero-mul q) ∙ zero-add r) ∙ sym (or-none (not (eqb r 0)))
+digit-zero (suc zero) (suc q) r h l = ap (λ m. not (eqb m 0)) (one r) ∙ ap not (eqb·suc-zero (q + r)) ∙ sym (or-all (not (eqb r 0)))
   where
-    or-none : (x : Bool) → x ≡ (x || false)
-    or-none true = refl
-    or-none false = refl
-digit-zero (suc zero) (suc q) r h l = ap (λ m. not (eqb m 0)) (one r) ∙ ap not (eqb·suc-zero (q + r)) ∙ or-one (not (eqb r 0))
-  where
-    or-one : (x : Bool) → true ≡ (x || true)
-    or-one true = refl
-    or-one false = refl
-
     one : (r : ℕ) → 1 * suc q + r ≡ suc (q + r)
     one r = omega arith
 digit-zero (suc zero) zero r h l = absurd (not-suc-le-zero h)
@@ -65,25 +57,13 @@ single-lt i true = pow-lt (le-refl (suc i))
 single-lt i false = pow-pos (suc i)
 
 pub kept-bit : (b : Bool) (m s : ℕ) → hasBit (kept b m) s ≡ (hasBit m s && b)
-kept-bit true m s = and-true (hasBit m s)
-  where
-    and-true : (x : Bool) → x ≡ (x && true)
-    and-true true = refl
-    and-true false = refl
-kept-bit false m s = hasBit-none s ∙ and-false (hasBit m s)
-  where
-    and-false : (x : Bool) → false ≡ (x && false)
-    and-false true = refl
-    and-false false = refl
+kept-bit true m s = sym (and-all (hasBit m s))
+kept-bit false m s = hasBit-none s ∙ sym (and-none (hasBit m s))
 
 pub marked-lt : (p : ℕ → Bool) (n : ℕ) → marked p n < 2 ^ n
 marked-lt p zero = pow-pos 0
 marked-lt p (suc n) =
     or-lt (suc n) (marked p n) (single n (p n)) (lt-of-lt-of-le (marked-lt p n) (pow-mono (omega arith))) (single-lt n (p n))
-
-or-no : (x : Bool) → (x || false) ≡ x
-or-no true = refl
-or-no false = refl
 
 -- a number below n is in the set where p holds at it
 pub marked-bit : (p : ℕ → Bool) (n i : ℕ) → i < n → hasBit (marked p n) i ≡ p i
@@ -93,7 +73,7 @@ marked-bit p (suc n) i l =
     ∙ either
     (eq-or-lt-of-le (le-of-suc-le-suc l))
     (λ (q : i ≡ n). rw (q, hasBit-small (marked p n) n (marked-lt p n)) (single-at n (p n)))
-    (λ (q : i < n). rw (single-over n i (p n) q) (or-no (hasBit (marked p n) i) ∙ marked-bit p n i q))
+    (λ (q : i < n). rw (single-over n i (p n) q) (or-none (hasBit (marked p n) i) ∙ marked-bit p n i q))
 
 -- for dependencies: some d below n in m has p
 pub marked-overlap : (p : ℕ → Bool) (m n : ℕ) → overlap m (marked p n) ≡ some (λ d. hasBit m d && p d) n
@@ -134,13 +114,13 @@ marked-first p n = first-as (hasBit (marked p n)) p n (λ i l. marked-bit p n i 
 pub shifted-one : (i : ℕ) (b : Bool) → i < 64 → b ≡ true → 1 * 2 ^ i % 2 ^ 64 ≡ single i b
 shifted-one i b l e = shl-exact 1 i 64 (omega arith) (omega arith) ∙ one-mul (2 ^ i) ∙ rw e
 
-three : (a b : ℕ) → (a ≡ b) ⊎ ((a < b) ⊎ (b < a))
-three zero zero = inl refl
-three zero (suc b) = inr (inl (omega arith))
-three (suc a) zero = inr (inr (omega arith))
-three (suc a) (suc b) =
+compared : (a b : ℕ) → (a ≡ b) ⊎ ((a < b) ⊎ (b < a))
+compared zero zero = inl refl
+compared zero (suc b) = inr (inl (omega arith))
+compared (suc a) zero = inr (inr (omega arith))
+compared (suc a) (suc b) =
     either
-    (three a b)
+    (compared a b)
     (λ (q : a ≡ b). inl (ap suc q))
     (λ o. either o (λ (q : a < b). inr (inl (omega arith))) (λ (q : b < a). inr (inr (omega arith))))
 
@@ -149,10 +129,33 @@ pub single-only : (i s : ℕ) (b : Bool) → hasBit (single i b) s ≡ true → 
 single-only i s false e = absurd (false≢true (sym (hasBit-none s) ∙ e))
 single-only i s true e =
     either
-    (three s i)
+    (compared s i)
     (λ (q : s ≡ i). (q, refl))
     (λ o.
     either
     o
     (λ (q : s < i). absurd (false≢true (sym (power-over i s q) ∙ e)))
     (λ (q : i < s). absurd (false≢true (sym (hasBit-small (2 ^ i) s (pow-lt q)) ∙ e))))
+
+-- ---- a test on sets, asked the other way round
+
+implied : (a b : Bool) → not (a && not b) ≡ implies a b
+implied true true = refl
+implied true false = refl
+implied false b = refl
+
+not-or : (a b : Bool) → not (a || b) ≡ (not a && not b)
+not-or true b = refl
+not-or false b = refl
+
+-- q holds at every number below n where p holds at none of them
+pub none-every : (p q : ℕ → Bool) (n : ℕ) → ((i : ℕ) → not (p i) ≡ q i) → not (some p n) ≡ every q n
+unfolding some every
+none-every p q zero h = refl
+none-every p q (suc n) h = not-or (some p n) (p n) ∙ rw (none-every p q n h, h n)
+
+-- for dependencies: every d below n in m has p
+pub marked-disjoint : (p : ℕ → Bool) (m n : ℕ) → not (overlap m (marked (λ d. not (p d)) n)) ≡ every (λ d. implies (hasBit m d) (p d)) n
+marked-disjoint p m n =
+    ap not (marked-overlap (λ d. not (p d)) m n)
+    ∙ none-every (λ d. hasBit m d && not (p d)) (λ d. implies (hasBit m d) (p d)) n (λ d. implied (hasBit m d) (p d))

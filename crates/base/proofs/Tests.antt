@@ -48,6 +48,23 @@ pub or-true : (a b : Bool) → ((a || b) ≡ true) ↔ ((a ≡ true) ⊎ (b ≡ 
 or-true true b = (λ e. inl refl, λ h. refl)
 or-true false b = (λ e. inr e, elim [ inl e ↦ no-ft e | inr e ↦ e ])
 
+-- a part that settles the test, and one that leaves it to the other
+pub and-none : (a : Bool) → (a && false) ≡ false
+and-none true = refl
+and-none false = refl
+
+pub and-all : (a : Bool) → (a && true) ≡ a
+and-all true = refl
+and-all false = refl
+
+pub or-none : (a : Bool) → (a || false) ≡ a
+or-none true = refl
+or-none false = refl
+
+pub or-all : (a : Bool) → (a || true) ≡ true
+or-all true = refl
+or-all false = refl
+
 pub imp-true : (a b : Bool) → (implies a b ≡ true) ↔ ((a ≡ true) → b ≡ true)
 imp-true true b = (λ e _. e, λ h. h refl)
 imp-true false b = (λ _ e. no-ft e, λ h. refl)

@@ -22,7 +22,7 @@ kept b m = pick b m 0
 
 -- the two sets have a number in common
 unfoldable pub overlap : ℕ → ℕ → Bool
-overlap m c = not (eqb (bitAnd m c) 0)
+overlap a b = not (eqb (bitAnd a b) 0)
 
 -- the numbers below n at which p holds
 abbrev pub marked : (ℕ → Bool) → ℕ → ℕ

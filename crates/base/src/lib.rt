@@ -37,10 +37,10 @@ pub fn kept_if(b: bool, m: u64) -> u64
 }
 
 // The two sets have a number in common.
-pub fn overlaps(m: u64, c: u64) -> bool
-    ensures { λ r. ⌜ r ≡ overlap m c ⌝ }
+pub fn overlaps(a: u64, b: u64) -> bool
+    ensures { λ r. ⌜ r ≡ overlap a b ⌝ }
 {
-    (m & c) != 0
+    (a & b) != 0
 }
 
 // The lowest number below n in the set, or n where there is none.

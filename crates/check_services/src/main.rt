@@ -1,5 +1,7 @@
 // Reads names from standard input, loads the files of these names in the current folder, and writes what was loaded, or the refusal.
 use lent::Answer;
+use lent::MAX_TEXT;
+use lent::MAX_TEXTS;
 use lent::name_at;
 use libc::STDIN_FILENO;
 use libc::STDOUT_FILENO;
@@ -7,18 +9,19 @@ use loader::Loaded;
 use service::Kind;
 use service::MAX_SERVICES;
 use service::Table;
+use word::LONGEST_NAME;
 ghost use Prim.Native.Nat.{_≤_};
 ghost use lib.ListN.{length};
 
 // What is kept of the names and of each text: one more than is allowed, so that the load sees it.
-const KEPT_NAMES: usize = 33;
+const KEPT_NAMES: usize = MAX_SERVICES + 1;
 
-const KEPT_NAME: usize = 33;
+const KEPT_NAME: usize = LONGEST_NAME + 1;
 
-const KEPT_TEXT: usize = 4097;
+const KEPT_TEXT: usize = MAX_TEXT + 1;
 
 // Once so many bytes of text were read, more than the most that is allowed, no further file is opened.
-const ENOUGH_TEXT: usize = 32769;
+const ENOUGH_TEXT: usize = MAX_TEXTS + 1;
 
 // What a read gave: where it ended, and whether it did not fail.
 struct Got {
@@ -307,7 +310,7 @@ fn run(input: &mut [u8], buffer: &mut [u8], ends: &mut [usize], tokens: &mut [u8
 fn main() {
     let mut input = io::large_buffer();
     let mut buffer = [0u8; 40960];
-    let mut ends = [0usize; 66];
+    let mut ends = [0usize; 2 * KEPT_NAMES];
     let mut tokens = io::large_buffer();
     run(&mut input, &mut buffer, &mut ends, &mut tokens);
 }

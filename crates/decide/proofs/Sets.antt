@@ -9,8 +9,7 @@ use lib.Dec.{leb, ltb}
 use borrow.Author.Tests.{lt-ltb}
 use Rattle.base.specs.Folds.{pick, implies, some, every, first}
 use Rattle.base.specs.Sets.{hasBit, single, overlap, marked}
-use Rattle.base.proofs.Sets.{marked-overlap, union-kept, marked-first}
-use Rattle.base.proofs.Words.{marked-disjoint}
+use Rattle.base.proofs.Sets.{marked-overlap, union-kept, marked-first, marked-disjoint}
 use Rattle.service.specs.Settings.{settingsAt}
 use Rattle.service.specs.Records.{recordAt, isDown, isWaiting, isUser, active}
 use Rattle.service.specs.declared.Table.{Table}

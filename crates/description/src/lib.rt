@@ -1,4 +1,4 @@
-// One description: its lines read in turn to settings, with the dependencies that it names.
+// What one description holds: its settings and the dependencies that it names, and what a line with a good value adds to them.
 use service::Settings;
 use text::Fault;
 use text::Verdict;
@@ -7,6 +7,7 @@ use text::part;
 use text::same_bytes;
 use value::LONGEST_WORD;
 use value::Sizes;
+use value::WORD_ROOM;
 use value::write_word;
 use word::Setting;
 use word::is_name;
@@ -92,20 +93,20 @@ pub fn value_at(text: &[u8], at: usize) -> &[u8]
     part(text, at, line_end(text, at))
 }
 
-// Writes the word that begins at an offset to dst, and returns its length.
-pub fn write_word_at(text: &[u8], at: usize, dst: &mut [u8]) -> usize
-    ensures { λ r. ⌜ Puts (now (dst .entry)) 0 (wordAt (now (text .entry)) at) (now (dst .exit)) r ⌝ }
+// Writes the word that begins at an offset to buffer, and returns its length.
+pub fn write_word_at(text: &[u8], at: usize, buffer: &mut [u8]) -> usize
+    ensures { λ r. ⌜ Puts (now (buffer .entry)) 0 (wordAt (now (text .entry)) at) (now (buffer .exit)) r ⌝ }
 {
-    write_word(value_at(text, at), dst)
+    write_word(value_at(text, at), buffer)
 }
 
 // The dependency is one on the word by the property.
-pub fn is_dependency(text: &[u8], e: Dependency, property: usize, word: &[u8]) -> bool
+fn is_dependency(text: &[u8], e: Dependency, property: usize, word: &[u8]) -> bool
     ensures { λ r. ⌜ r ≡ isDependency (now (text .entry)) e property (now (word .entry)) ⌝ }
 {
-    let other = e.property == property;
-    if other {
-        let mut buffer = [0u8; 33];
+    let alike = e.property == property;
+    if alike {
+        let mut buffer = [0u8; WORD_ROOM];
         let n = write_word_at(text, e.at, &mut buffer);
         return same_bytes(part(&buffer, 0, n), word);
     }
@@ -113,7 +114,7 @@ pub fn is_dependency(text: &[u8], e: Dependency, property: usize, word: &[u8]) -
 }
 
 // The description has a dependency on the word by the property.
-pub fn is_known(text: &[u8], d: Description, property: usize, word: &[u8]) -> bool
+fn is_known(text: &[u8], d: Description, property: usize, word: &[u8]) -> bool
     ensures { λ r. ⌜ r ≡ known (now (text .entry)) d property (now (word .entry)) ⌝ }
 {
     let mut found = false;
@@ -128,7 +129,7 @@ pub fn is_known(text: &[u8], d: Description, property: usize, word: &[u8]) -> bo
 }
 
 // A dependency on a word by a property.
-pub fn read_dependency(
+fn read_dependency(
     text: &[u8],
     d: Description,
     property: usize,
@@ -153,7 +154,7 @@ pub fn read_dependency(
 }
 
 // What a setting makes of its line.
-pub fn setting_line(property: usize, seen: usize, s: Setting) -> Line
+fn setting_line(property: usize, seen: usize, s: Setting) -> Line
     ensures { λ r. ⌜ r ≡ settingRead property seen s ⌝ }
 {
     match s {
@@ -166,7 +167,7 @@ pub fn setting_line(property: usize, seen: usize, s: Setting) -> Line
 }
 
 // A line of a property that takes a word.
-pub fn read_word_line(
+fn read_word_line(
     text: &[u8],
     d: Description,
     property: usize,
@@ -198,14 +199,14 @@ pub fn read_tokens(
     property: usize,
     at: usize,
     seen: usize,
-    z: Sizes,
+    sizes: Sizes,
     value: &[u8],
 ) -> Line
-    ensures { λ r. ⌜ r ≡ tokensRead (now (text .entry)) d property at seen z (now (value .entry)) ⌝ }
+    ensures { λ r. ⌜ r ≡ tokensRead (now (text .entry)) d property at seen sizes (now (value .entry)) ⌝ }
 {
     let command = (property == 1) | (property == 2);
     if command {
-        let good = 0 < z.first;
+        let good = 0 < sizes.first;
         if good {
             return Line::Good(Effect::Setting(property, at as u64));
         }
@@ -214,9 +215,9 @@ pub fn read_tokens(
             at: seen,
         });
     }
-    let single = (z.tokens == 1) & (0 < z.first) & (z.first <= LONGEST_WORD);
+    let single = (sizes.tokens == 1) & (0 < sizes.first) & (sizes.first <= LONGEST_WORD);
     if single {
-        let mut buffer = [0u8; 33];
+        let mut buffer = [0u8; WORD_ROOM];
         let n = write_word(value, &mut buffer);
         return read_word_line(text, d, property, at, seen, part(&buffer, 0, n));
     }

@@ -1,16 +1,14 @@
 -- A run: what its loop keeps from action to action, and that it has come to quiet when it ends.
 use Prim.Native.Nat.{ℕ, zero, suc, _+_, _*_, _≤_, _<_}
-use native.Mathlib.Nat.{eq-or-lt-of-le}
 use native.Mathlib.Numerals.{add-one}
 use native.Mathlib.Omega.{arith}
-use mathlib.Core.Path.{_≡_, refl, sym, ap, _∙_, subst}
+use mathlib.Core.Path.{_≡_, refl, sym, ap, _∙_}
 use mathlib.Core.Bool.{Bool, true, false}
 use mathlib.Core.List.{List}
 use lib.Dec.{leb}
 use lib.ListN.{set, length, length-set}
 use borrow.Author.Tests.{le-leb}
-use Rattle.base.proofs.Tests.{and-true, either, not-both}
-use Rattle.base.proofs.Below.{Sought, found, nowhere, sought}
+use Rattle.base.proofs.Tests.{and-true}
 use Rattle.base.proofs.Loops.{Passed, passed-none, passed-more, passed-hit, passed-all}
 use Rattle.service.specs.Limits.{maxServices}
 use Rattle.service.specs.Numbers.{isQuiet, actionService, actionNumber}
@@ -21,15 +19,14 @@ use Rattle.service.specs.declared.RunAnswer.the-variants.{Ran as RanTo}
 use Rattle.service.specs.declared.Ran.{Ran}
 use Rattle.service.specs.declared.Table.{Table}
 use Rattle.service.specs.declared.State.{State}
-use Rattle.service.specs.declared.Step.{Step}
 use Rattle.service.specs.declared.Stepped.{Stepped}
 use Rattle.rules.specs.WellFormed.{formed}
-use Rattle.rules.specs.Rules.{nextAction}
+use Rattle.rules.specs.Rules.{Step, nextAction}
 use Rattle.rules.specs.Runs.{stateAfter, actionAfter, stepsToQuiet, written, writtenServices, writtenActions}
 use Rattle.rules.specs.Calls.{acted, check, gives, next, outcome, ranOutcome, run, steppedOutcome}
 use Rattle.rules.proofs.Formed.{formed-next, formed-sound, sound-next}
 use Rattle.rules.proofs.Runs.{steps-within}
-use Rattle.rules.proofs.Resting.{rests-everywhere}
+use Rattle.rules.proofs.Resting.{rests-everywhere, steps-quiet}
 use Rattle.engine.specs.declared.Progress.{Progress}
 use Rattle.engine.specs.Quiet.{Advanced, restedWithin}
 
@@ -120,20 +117,6 @@ module _ {t : Table} {x : State} {s a : List ℕ} {m : ℕ} where
               rw (h .newest, h .state, all);
         }
 
--- the action after the steps to quiet is quiet
-steps-quiet : (t : Table) (x : State) → length (x .records) ≡ maxServices → formed t x ≡ true → isQuiet (actionAfter t x (stepsToQuiet t x)) ≡ true
-unfolding stepsToQuiet
-steps-quiet t x z f = go (sought (λ k. isQuiet (actionAfter t x k)) (4 * t .count))
-  where
-    go : {i : ℕ} → Sought (λ k. isQuiet (actionAfter t x k)) (4 * t .count) i → isQuiet (actionAfter t x i) ≡ true
-    go (found h) = h .passes
-    go (nowhere h) =
-        let w = rests-everywhere t x z f .quiet in
-        either
-        (eq-or-lt-of-le (w .1))
-        (λ e. subst (λ n. isQuiet (actionAfter t x n) ≡ true) e (ap isQuiet (w .2)))
-        (λ l. absurd (not-both (ap isQuiet (w .2)) (h (w .0) l)))
-
 -- an accepted call: q is what the code found of list 24, r what it did, and z what it gives back
 module _ (t : Table) (x : State) (q : Bool) (s a s′ a′ : List ℕ) (r : Progress) (e : q ≡ formed t x) (h : q ≡ true) where
   accepted : formed t x ≡ true
@@ -161,4 +144,4 @@ module _ (t : Table) (x : State) (q : Bool) (s a s′ a′ : List ℕ) (r : Prog
     run-rested n =
         rw (g, w .state, steps)
         (and-true (leb (stepsToQuiet t x) (4 * t .count)) (isQuiet (nextAction t (stateAfter t x (stepsToQuiet t x)) .action)) .1
-        (le-leb (stepsToQuiet t x) (4 * t .count) (steps-within t x), steps-quiet t x n accepted))
+        (le-leb (stepsToQuiet t x) (4 * t .count) (steps-within t x), steps-quiet t x (rests-everywhere t x n accepted)))

@@ -1,6 +1,6 @@
 -- One step: what the code chose is what the rules choose, and what it leaves and hands out is theirs.
 use Prim.Native.Nat.{ℕ, _<_}
-use mathlib.Core.Path.{_≡_, refl, sym, ap, _∙_, subst}
+use mathlib.Core.Path.{_≡_, sym, ap, _∙_, subst}
 use mathlib.Core.Bool.{Bool, true, false}
 use Rattle.base.specs.Folds.{pick}
 use Rattle.base.specs.Sets.{overlap}
@@ -12,44 +12,17 @@ use Rattle.service.specs.declared.Action.the-variants.{Quiet}
 use Rattle.service.specs.declared.Record.{Record}
 use Rattle.service.specs.declared.Table.{Table}
 use Rattle.service.specs.declared.State.{State}
-use Rattle.service.specs.declared.Step.{Step}
 use Rattle.rules.specs.declared.Rule.{Rule}
-use Rattle.rules.specs.declared.Rule.the-variants.{Lose, Abandon, Settle, Wake, Release, Begin, End, Expire}
 use Rattle.rules.specs.declared.Choice.{Choice}
 use Rattle.rules.specs.declared.Choice.the-variants.{Quiet as NoRule, Fit}
 use Rattle.rules.specs.WellFormed.{formed}
-use Rattle.rules.specs.Rules.{lostToUser, leaves, hands, chosen, act, actOn, nextAction}
+use Rattle.rules.specs.Rules.{Step, lostToUser, leftBy, leaves, handedBy, hands, chosen, act, actOn, nextAction}
 use Rattle.rules.proofs.Next.{Chosen, rule, chosen-is}
 use Rattle.rules.proofs.Resting.{loud}
 use Rattle.settling.specs.Sound.{sound}
 use Rattle.settling.proofs.Formed.{sound-at}
 use Rattle.decide.specs.Lost.{lostByUser}
 use Rattle.decide.proofs.Sets.{lost-to-user}
-use Rattle.rule_records.specs.Left.{leftBy}
-use Rattle.actions.specs.Handed.{handedBy}
-
-module _ (t : Table) (x : State) (s : ℕ) where
-  left-as : (k : Rule) → leftBy k (lostToUser t x s) (settingsAt t s) (x .clock) (recordAt x s) ≡ leaves k t x s
-  unfolding leftBy leaves
-  left-as Lose = refl
-  left-as Abandon = refl
-  left-as Settle = refl
-  left-as Wake = refl
-  left-as Release = refl
-  left-as Begin = refl
-  left-as End = refl
-  left-as Expire = refl
-
-  handed-as : (k : Rule) → handedBy k (settingsAt t s) (recordAt x s) s ≡ hands k t x s
-  unfolding handedBy hands
-  handed-as Lose = refl
-  handed-as Abandon = refl
-  handed-as Settle = refl
-  handed-as Wake = refl
-  handed-as Release = refl
-  handed-as Begin = refl
-  handed-as End = refl
-  handed-as Expire = refl
 
 -- c is what the code chose
 module _ (t : Table) (y : State) (c : Choice) (f : formed t y ≡ true) (choice : c ≡ chosen t y) where
@@ -70,11 +43,11 @@ module _ (t : Table) (y : State) (c : Choice) (f : formed t y ≡ true) (choice 
       → r ≡ pick (sound (settingsAt t s) (y .clock) (recordAt y s)) (leftBy k u (settingsAt t s) (y .clock) (recordAt y s)) (recordAt y s)
       → a ≡ handedBy k (settingsAt t s) (recordAt y s) s
       → (_≡_ {A = Step} (record { action = a; state = withRecord y s r }) (nextAction t y)) × (isQuiet a ≡ false)
-  unfolding nextAction actOn act
+  unfolding nextAction actOn act leaves hands
   step-fits k s m u r a user h i j n =
       let l : s < t .count = chosen-below k s h in
       let v : u ≡ lostToUser t y s = i ∙ ap (overlap (settingsAt t s .hard)) user ∙ lost-to-user t y s in
       let w : r ≡ leaves k t y s
-      = j ∙ rw (sound-at t y f s l) (ap (λ b. leftBy k b (settingsAt t s) (y .clock) (recordAt y s)) v ∙ left-as t y s k) in
-      let o : a ≡ hands k t y s = n ∙ handed-as t y s k in
+      = j ∙ rw (sound-at t y f s l) (ap (λ b. leftBy k b (settingsAt t s) (y .clock) (recordAt y s)) v) in
+      let o : a ≡ hands k t y s = n in
       (rw (sym choice ∙ h, w, o), ap isQuiet o ∙ loud k t y s)

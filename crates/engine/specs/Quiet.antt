@@ -11,8 +11,7 @@ use Rattle.service.specs.declared.RunAnswer.the-variants.{Ran as RanTo, Refused
 use Rattle.service.specs.declared.Ran.{Ran}
 use Rattle.service.specs.declared.Table.{Table}
 use Rattle.service.specs.declared.State.{State}
-use Rattle.service.specs.declared.Step.{Step}
-use Rattle.rules.specs.Rules.{nextAction}
+use Rattle.rules.specs.Rules.{Step, nextAction}
 use Rattle.rules.specs.Runs.{actionAfter, stateAfter, written}
 use Rattle.engine.specs.declared.Progress.{Progress}
 

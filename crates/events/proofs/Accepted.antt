@@ -20,8 +20,9 @@ use Rattle.rules.specs.Dependencies.{allLinks}
 use Rattle.rules.specs.WellFormed.{formed}
 use Rattle.rules.specs.Events.{each, startReaches, startedAs, afterStart, stopped, afterStop, afterStopAll, endedAs, afterEnd, afterClock}
 use Rattle.rules.specs.Calls.{start, stop, stopAll, end, clock, check, outcome, changedOutcome}
+use Rattle.rules.proofs.Formed.{formed-few}
 use Rattle.settling.specs.Sound.{sound}
-use Rattle.settling.proofs.Formed.{few, sound-at}
+use Rattle.settling.proofs.Formed.{sound-at}
 
 module _ (t : Table) (x : State) (q : Bool) (w : Changed) where
   -- m is what the code found s to reach
@@ -32,7 +33,7 @@ module _ (t : Table) (x : State) (q : Bool) (w : Changed) where
   unfolding outcome check afterStart startReaches
   start-done s m y e h l g a d =
       let f : formed t x ≡ true = sym e ∙ h in
-      let k : m ≡ reach (allLinks t) (t .count) s = g ∙ rw (le-leb (t .count) maxServices (few t x f), lt-ltb s (t .count) l) in
+      let k : m ≡ reach (allLinks t) (t .count) s = g ∙ rw (le-leb (t .count) maxServices (formed-few t x q e h), lt-ltb s (t .count) l) in
       let b : y ≡ each (λ d r. startedAs (eqb d s) (startReaches t s d) r) x (t .count)
       = a ∙ ap (λ n. each (λ d r. startedAs (eqb d s) (eqb d s || hasBit n d) r) x (t .count)) k in
       rw (d, b, f, lt-ltb s (t .count) l)

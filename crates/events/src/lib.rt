@@ -15,12 +15,10 @@ use wellformed::is_formed;
 use wellformed::reach_set;
 ghost use mathlib.Core.Path.{_≡_};
 ghost use mathlib.Core.Bool.{_||_};
-ghost use Prim.Native.Nat.{_≤_};
 ghost use lib.Dec.{eqb};
 ghost use Rattle.base.specs.Sets.{hasBit};
-ghost use Rattle.service.specs.Limits.{maxServices};
 ghost use Rattle.service.specs.declared.EventAnswer.the-variants.{Done, Refused};
-ghost use Rattle.rules.specs.Events.{each, startedAs, stopped};
+ghost use Rattle.rules.specs.Events.{startedAs};
 ghost use Rattle.rules.specs.Calls.{start as startCall, stop as stopCall, stopAll, end as endCall, clock as clockCall, outcome, changedOutcome};
 
 fn refuse(k: Refusal, x: State) -> Changed
@@ -82,8 +80,8 @@ pub fn stop(t: Table, mut x: State, s: usize) -> Changed
     if formed {
         if s < n {
             let r = x.records[s];
-            let q = stop_record(r);
-            x.records[s] = q;
+            let stopped = stop_record(r);
+            x.records[s] = stopped;
             return done(x);
         }
         return refuse(absent, x);

@@ -3,7 +3,7 @@ use Prim.Native.Nat.{_+_, _<_, _^_, _≤_, suc, zero, ℕ}
 use borrow.Author.Tests.{leb-true, ltb-true}
 use lib.Bits.{bitOr}
 use lib.Dec.{eqb, leb, ltb}
-use lib.ListN.{getD, length, replicate, set}
+use lib.ListN.{getD, replicate, set}
 use mathlib.Core.Bool.{Bool, false, true}
 use mathlib.Core.List.{List}
 use mathlib.Core.Path.{_≡_, refl}
@@ -27,14 +27,12 @@ use Rattle.text.specs.declared.Verdict.the-variants.{Bad as Bad, Good as Good}
 use Rattle.description.specs.Settings.{blank, dependencyAt, descriptionAt, wordAt}
 use Rattle.description.specs.Texts.{textRead}
 use Rattle.description.specs.declared.Description.{Description}
-use Rattle.lent.specs.Checks.{find, namesFrom, sizesFrom}
+use Rattle.lent.specs.Checks.{find}
 use Rattle.linking.specs.Links.{linksAt, linksFrom, lowestCyclic, noLinks, servicesFrom, servicesOn, settingsOf, withLink}
-use Rattle.loader.specs.Load.{Outcome as LoadOutcome, acyclic, load, loadSet, passed, stored, tested}
-use Rattle.lent.specs.Parts.{nameAt, positioned, serviceCount, textAt}
+use Rattle.loader.specs.Load.{acyclic}
+use Rattle.lent.specs.Parts.{nameAt, serviceCount, textAt}
 use Rattle.loader.specs.Texts.{descriptionsFrom, descriptionsOn, noDescriptions}
-use Rattle.storing.specs.Tokens.{bytesFrom}
-use Rattle.lent.specs.declared.Answer.{Answer as LoadAnswer}
-use Rattle.lent.specs.declared.Answer.the-variants.{Accepted, Refused as LoadRefused}
+use Rattle.loader.proofs.Outcomes.{every-load, setDescriptions, setServices}
 use Rattle.linking.specs.declared.Linked.{Linked}
 use Rattle.linking.specs.declared.Links.{Links}
 use Rattle.guarantee.specs.Guarantee.{LoadsFormed}
@@ -159,42 +157,17 @@ none-formed = refl
 
 -- ---- the load
 
-abbrev Formed : LoadOutcome → Type 0
-Formed o = tableFormed (o .loaded .table) ≡ true
-
-after-pass : (buffer : List ℕ) (a : LoadAnswer) (o : LoadOutcome) → Formed o → Formed (passed buffer a o)
-after-pass buffer Accepted o h = h
-after-pass buffer (LoadRefused k s l) o h = none-formed
-
-after-test : (buffer : List ℕ) (b : Bool) (k s : ℕ) (o : LoadOutcome) → (b ≡ true → Formed o) → Formed (tested buffer b k s o)
-after-test buffer true k s o h = h refl
-after-test buffer false k s o h = none-formed
-
-set-formed : (name text : ℕ → List ℕ) (n : ℕ) (buffer : List ℕ) → n ≤ maxServices → Formed (loadSet name text n buffer)
-unfolding loadSet acyclic stored
-set-formed name text n buffer l =
-    after-pass buffer (namesFrom name 0 n) _
-    (after-pass buffer (sizesFrom text 0 0 n) _
-    (after-pass buffer (descriptionsFrom text noDescriptions 0 n .answer) _
-    (after-pass buffer (servicesFrom name text ds n (replicate maxServices defaultSettings) 0 n .answer) _
-    (after-test buffer (leb n (lowestCyclic vs n)) 16 (lowestCyclic vs n) _
-    (λ e. after-test buffer (leb (length (bytesFrom text ds 0 n)) (length buffer)) 25 0 _
-    (λ _. made-formed n vs l ok e))))))
+-- the services of a set that loads are in range
+set-in : (lent ends : List ℕ) → AllServices (serviceCount ends) (setServices lent ends)
+set-in lent ends =
+    services-in (nameAt lent ends) (textAt lent ends) (setDescriptions lent ends) n (replicate maxServices defaultSettings) 0 n
+    (descriptions-in (textAt lent ends) noDescriptions 0 n (λ i. copies-hold InRange maxServices i blank blank blank-in blank-in))
+    (λ i. copies-hold (ServiceIn n) maxServices i defaultSettings noSettings (default-in n) (no-settings-in n))
   where
-    ds : List Description
-    ds = descriptionsFrom text noDescriptions 0 n .descriptions
-
-    vs : List Settings
-    vs = servicesFrom name text ds n (replicate maxServices defaultSettings) 0 n .services
-
-    ok : AllServices n vs
-    ok =
-        services-in name text ds n (replicate maxServices defaultSettings) 0 n
-        (descriptions-in text noDescriptions 0 n (λ i. copies-hold InRange maxServices i blank blank blank-in blank-in))
-        (λ i. copies-hold (ServiceIn n) maxServices i defaultSettings noSettings (default-in n) (no-settings-in n))
+    n : ℕ
+    n = serviceCount ends
 
 pub loads-formed : LoadsFormed
-unfolding load
 loads-formed lent ends tokens =
-    after-test tokens (leb (serviceCount ends) maxServices) 1 0 _
-    (λ e. after-test tokens (positioned lent ends) 2 0 _ (λ _. set-formed (nameAt lent ends) (textAt lent ends) (serviceCount ends) tokens (leb-true _ _ e)))
+    every-load (λ o. tableFormed (o .loaded .table) ≡ true) tokens (λ k s l. none-formed) lent ends
+    (λ few none. made-formed (serviceCount ends) (setServices lent ends) few (set-in lent ends) none)

@@ -21,7 +21,7 @@ use Rattle.value.specs.declared.Scan.{Scan}
 use Rattle.value.specs.declared.Scan.the-variants.{Bad as BadValue, Tokens}
 use Rattle.value.specs.declared.Sizes.{Sizes}
 use Rattle.word.specs.Decimals.{countEnd, countOf, blank as decimalBlank, decimalFrom, timeEnd, timeOf, unitsOf, valued}
-use Rattle.word.specs.Properties.{propertyOf, settingOf, takesCommand, takesName, unknownProperty}
+use Rattle.word.specs.Properties.{propertyOf, settingOf, takesCommand, takesName, takesTime, unknownProperty}
 use Rattle.word.specs.Words.{flagOf, isName, kindOf, noOf, signalOf}
 use Rattle.word.specs.declared.Decimal.{Decimal}
 use Rattle.word.specs.declared.Reading.{Reading}
@@ -37,13 +37,9 @@ use Rattle.description.specs.declared.Effect.the-variants.{Dependency, Nothing,
 use Rattle.description.specs.declared.Line.{Line}
 use Rattle.description.specs.declared.Line.the-variants.{Bad as BadLine, Good as GoodLine}
 
--- restart-delay, the limit's interval and the two timeouts
-abbrev isTime : ℕ → Bool
-isTime p = eqb p 5 || eqb p 6 || eqb p 8 || eqb p 9
-
 -- the value v of property p is in its range
 abbrev inRule : ℕ → ℕ → Bool
-inRule p v = pick (eqb p 7) (leb v maxCount) (pick (isTime p) (leb v longestTime) true)
+inRule p v = pick (eqb p 7) (leb v maxCount) (pick (takesTime p) (leb v longestTime) true)
 
 -- ---- a word's value
 
@@ -90,7 +86,7 @@ count-at-most w = go (decimalFrom decimalBlank w)
 
 -- a time is in the range of every property but the count
 timed : (p : ℕ) (s : SettingRead) → eqb p 7 ≡ false → AtMost longestTime s → SettingIn p s
-timed p (Value v) e h = rw e (go (isTime p))
+timed p (Value v) e h = rw e (go (takesTime p))
   where
     go : (b : Bool) → pick b (leb v longestTime) true ≡ true
     go true = h
@@ -109,7 +105,7 @@ setting-in p w =
     by-test (eqb p 4) (noOf w) _ (λ e. at-number p 4 (noOf w) e (free 4 (noOf w) (λ v. refl))) λ _.
     by-test (eqb p 7) (countOf w) _ (λ e. at-number p 7 (countOf w) e (counted (countOf w) (count-at-most w))) λ n.
     by-test (eqb p 13) (signalOf w) _ (λ e. at-number p 13 (signalOf w) e (free 13 (signalOf w) (λ v. refl))) λ _.
-    timed p (timeOf w) n (time-at-most w)
+    by-test (takesTime p) (timeOf w) BadSetting (λ _. timed p (timeOf w) n (time-at-most w)) (λ _. tt)
   where
     by-test : (b : Bool) (a c : SettingRead) → (b ≡ true → SettingIn p a) → (b ≡ false → SettingIn p c) → SettingIn p (pick b a c)
     by-test true a c f g = f refl

@@ -1,9 +1,8 @@
 -- "Reader and averager, on both sides": the worked examples that paper 01 marks P, one table and one statement.
-use Rattle.value.specs.Values.{sizesFrom as countFrom}
 use Prim.Native.Nat.{ℕ}
 use Prim.Native.String.{String}
 use mathlib.Core.List.{List, [], _++_, _∷_}
-use mathlib.Core.Path.{_≡_, refl}
+use mathlib.Core.Path.{_≡_, ap, refl}
 use Rattle.base.specs.Folds.{every, first, some}
 use Rattle.base.specs.Links.{cyclic, reach}
 use Rattle.base.specs.Sets.{hasBit, within}
@@ -22,7 +21,7 @@ use Rattle.text.specs.Strings.{bytes, indexFrom, partOf, same}
 use Rattle.text.specs.declared.Verdict.{Verdict}
 use Rattle.text.specs.declared.Verdict.the-variants.{Bad as Bad, Good as Good}
 use Rattle.value.specs.Steps.{bareStep, stepOf}
-use Rattle.value.specs.Values.{faultFrom, leading, marksFrom, scanOf, wordOf, written}
+use Rattle.value.specs.Values.{faultFrom, joined, leading, marksFrom, scanOf, sizesFrom as countFrom, spaced, wordOf, written}
 use Rattle.word.specs.Decimals.{countEnd, countOf, decimalFrom, digitOf, readOf, timeEnd, timeOf}
 use Rattle.word.specs.Properties.{propertyNames, propertyOf, settingOf}
 use Rattle.word.specs.Words.{flagOf, isName, kindOf, nameBytes, noOf, signalNames, signalOf}
@@ -30,6 +29,8 @@ use Rattle.description.specs.Lines.{dependencyRead, lineRead, propertyRead, tok
 use Rattle.description.specs.Settings.{known, valueAt, valueOf, wordAt}
 use Rattle.description.specs.Texts.{completion, linesRead, textRead}
 use Rattle.storing.specs.Tokens.{commandBytes}
+use Rattle.loader.specs.Examples.{Service, loadOf, pair-loads, pair as pairTexts}
+use Rattle.loader.specs.Load.{Outcome}
 
 -- a time and a command's value, as they stand in a description
 unfoldable pub timeText : String → List ℕ
@@ -46,19 +47,21 @@ refusalOf (Bad f) = f .number
 pub data Case : Type 0 where
   -- a time as it is written and its units of 0.1 ms; one that is refused, by a number
   time refusedTime : String → ℕ → Case
-  -- a value as it is written and its tokens, each followed by a zero byte; one that is refused, by a number
-  value : String → String → Case
+  -- a value as it is written, what it is, and its tokens, each followed by a zero byte; one that is refused, by a number
+  value : String → String → String → Case
   refusedValue : String → ℕ → Case
-  -- calls from the fresh state of a table, and their answers
-  played : Table → List Call → List Answer → Case
+  -- a set that loads, its table, and calls from the fresh state of the table with their answers
+  played : List Service → Table → List Call → List Answer → Case
 
 abbrev pub Passes : Case → Type 0
 Passes (time s n) = (textRead (timeText s) .answer ≡ Good) × (valueOf (textRead (timeText s) .description) 5 ≡ n)
 Passes (refusedTime s n) = refusalOf (textRead (timeText s) .answer) ≡ n
-Passes (value s w) =
-    (textRead (valueText s) .answer ≡ Good) × (commandBytes (valueText s) (valueOf (textRead (valueText s) .description) 1) ≡ bytes w)
+Passes (value s v w) =
+    (textRead (valueText s) .answer ≡ Good)
+    × (spaced (valueAt (valueText s) (valueOf (textRead (valueText s) .description) 1)) ≡ bytes v)
+    × (commandBytes (valueText s) (valueOf (textRead (valueText s) .description) 1) ≡ bytes w)
 Passes (refusedValue s n) = refusalOf (textRead (valueText s) .answer) ≡ n
-Passes (played t cs as′) = answers t freshState cs ≡ as′
+Passes (played ss t cs as′) = (loadOf ss 30 .loaded .table ≡ t) × (answers t freshState cs ≡ as′)
 
 abbrev pub AllPass : List Case → Type 0
 AllPass [] = Unit {0}
@@ -73,14 +76,14 @@ cases =
     ∷ refusedTime ".5" 11
     ∷ refusedTime "5." 11
     ∷ refusedTime "0.00001" 11
-    ∷ value "a  b # c" "a\0b\0"
+    ∷ value "a  b # c" "a b" "a\0b\0"
     ∷ refusedValue "a#b" 7
-    ∷ value "\"a  b\"c" "a  bc\0"
-    ∷ value "a\\ b" "a b\0"
-    ∷ played pair pairCalls pairAnswers
+    ∷ value "\"a  b\"c" "a  bc" "a  bc\0"
+    ∷ value "a\\ b" "a b" "a b\0"
+    ∷ played pairTexts pair pairCalls pairAnswers
     ∷ []
 
 -- THE STATEMENT
 pub worked : AllPass cases
-unfolding timeText valueText countFrom pairCalls pairAnswers answers some every first hasBit within reach cyclic settingsAt recordAt withRecord freshState hardLinks strongLinks allLinks hard strong soft depends blocked needed tableFormed shapedAt stateFormed formed each startReaches afterStart afterStop afterStopAll endedAs afterEnd afterClock due fits lostToUser leaves hands chosenFrom chosen act actOn nextAction check outcome bytes same indexFrom partOf run lineOf linesOf badFrom lineFrom lineNumber opening stepOf bareStep faultFrom marksFrom scanOf written leading wordOf flagOf noOf kindOf signalNames signalOf nameBytes isName digitOf readOf decimalFrom timeEnd timeOf countEnd countOf propertyNames propertyOf settingOf valueAt wordAt known dependencyRead wordRead tokensRead propertyRead lineRead completion linesRead textRead commandBytes
-worked = ((refl, refl), ((refl, refl), (refl, (refl, (refl, (refl, ((refl, refl), (refl, ((refl, refl), ((refl, refl), (refl, tt)))))))))))
+unfolding timeText valueText countFrom pairCalls pairAnswers answers some every first hasBit within reach cyclic settingsAt recordAt withRecord freshState hardLinks strongLinks allLinks hard strong soft depends blocked needed tableFormed shapedAt stateFormed formed each startReaches afterStart afterStop afterStopAll endedAs afterEnd afterClock due fits lostToUser leaves hands chosenFrom chosen act actOn nextAction check outcome bytes same indexFrom partOf run lineOf linesOf badFrom lineFrom lineNumber opening stepOf bareStep faultFrom marksFrom scanOf written leading wordOf flagOf noOf kindOf signalNames signalOf nameBytes isName digitOf readOf decimalFrom timeEnd timeOf countEnd countOf propertyNames propertyOf settingOf valueAt wordAt known dependencyRead wordRead tokensRead propertyRead lineRead completion linesRead textRead commandBytes joined spaced
+worked = ((refl, refl), ((refl, refl), (refl, (refl, (refl, (refl, ((refl, refl, refl), (refl, ((refl, refl, refl), ((refl, refl, refl), ((ap (λ (o : Outcome). o .loaded .table) pair-loads, refl), tt)))))))))))

@@ -1,14 +1,14 @@
 -- The laws of the lent positions, names and sizes, as loops go through them.
-use Prim.Native.Nat.{_*_, _+_, _-_, _/_, _<_, _≤_, suc, ℕ}
+use Prim.Native.Nat.{_*_, _+_, _-_, _/_, _<_, _≤_, ℕ}
 use borrow.Author.Tests.{le-ltb, lt-ltb, ne-eqb}
 use lib.Dec.{eqb, leb, ltb}
 use lib.ListN.{List·getD-eq-default, drop, drop-of-length-le, getD, length}
-use lib.Seq.{drop-cons}
-use mathlib.Core.Bool.{Bool, _&&_, _||_, false, true}
+use mathlib.Core.Bool.{Bool, _&&_, false, true}
 use mathlib.Core.List.{List}
-use mathlib.Core.Path.{_≡_, refl}
-use native.Mathlib.Numerals.{add-one}
+use mathlib.Core.Path.{_≡_}
 use native.Mathlib.Omega.{arith}
+use Rattle.base.proofs.Counting.{drop-more, one-left}
+use Rattle.base.proofs.Tests.{or-all}
 use Rattle.word.specs.Words.{isName}
 use Rattle.lent.specs.Checks.{find, longestText, longestTexts, namesFrom, sizesFrom}
 use Rattle.lent.specs.Parts.{nameStart, risesTo}
@@ -23,11 +23,7 @@ module _ (m p : ℕ) (s : List ℕ) (k : ℕ) where
 
   pub rises-next : {t : Bool} → k < length s → leb p (getD s k 0) ≡ t → risesTo m p (drop k s) ≡ (t && risesTo m (getD s k 0) (drop (k + 1) s))
   unfolding risesTo
-  rises-next h e = rw (add-one k, drop-cons s k 0 h, e)
-
-pub and-off : (a b : Bool) → b ≡ false → (a && b) ≡ false
-and-off true b e = e
-and-off false b e = refl
+  rises-next h e = rw (drop-more s k 0 h, e)
 
 -- ---- past the last service
 
@@ -49,21 +45,18 @@ unfolding namesFrom
 names-end name j m e = rw e
 
 module _ (name : ℕ → List ℕ) (j n : ℕ) (l : j < n) {w : List ℕ} (is : w ≡ name j) where
-  one-more : n - j ≡ suc (n - (j + 1))
-  one-more = omega arith
-
   pub names-bad : {g : Bool} → g ≡ isName w → g ≡ false → namesFrom name j (n - j) ≡ Refused 3 j 0
   unfolding namesFrom
-  names-bad e f = rw (one-more, ← is, ← e, f)
+  names-bad e f = rw (one-left n j l, ← is, ← e, f)
 
   pub names-twice : {g : Bool} {i : ℕ} → g ≡ isName w → g ≡ true → i ≡ find name j w → ltb i j ≡ true → namesFrom name j (n - j) ≡ Refused 4 j 0
   unfolding namesFrom
-  names-twice e f h k = rw (one-more, ← is, ← e, f, ← h, k)
+  names-twice e f h k = rw (one-left n j l, ← is, ← e, f, ← h, k)
 
   pub names-good : {g : Bool} {i : ℕ} → g ≡ isName w → g ≡ true → i ≡ find name j w → ltb i j ≡ false
       → namesFrom name j (n - j) ≡ namesFrom name (j + 1) (n - (j + 1))
   unfolding namesFrom
-  names-good e f h k = rw (one-more, ← is, ← e, f, ← h, k)
+  names-good e f h k = rw (one-left n j l, ← is, ← e, f, ← h, k)
 
 -- ---- sizes; w is the text of service j as the code has it
 
@@ -71,22 +64,15 @@ pub sizes-end : (text : ℕ → List ℕ) (t j m : ℕ) → m ≡ 0 → sizesFro
 unfolding sizesFrom
 sizes-end text t j m e = rw e
 
-or-on : (a b : Bool) → b ≡ true → (a || b) ≡ true
-or-on true b e = refl
-or-on false b e = e
-
 module _ (text : ℕ → List ℕ) (t j n : ℕ) (l : j < n) {w : List ℕ} (is : w ≡ text j) where
-  another : n - j ≡ suc (n - (j + 1))
-  another = omega arith
-
   pub sizes-long : longestText < length w → sizesFrom text t j (n - j) ≡ Refused 5 j 0
   unfolding sizesFrom
-  sizes-long h = rw (another, ← is, lt-ltb longestText (length w) h)
+  sizes-long h = rw (one-left n j l, ← is, lt-ltb longestText (length w) h)
 
   pub sizes-many : longestTexts < t + length w → sizesFrom text t j (n - j) ≡ Refused 5 j 0
   unfolding sizesFrom
-  sizes-many h = rw (another, ← is, or-on (ltb longestText (length w)) _ (lt-ltb longestTexts (t + length w) h))
+  sizes-many h = rw (one-left n j l, ← is, lt-ltb longestTexts (t + length w) h, or-all (ltb longestText (length w)))
 
   pub sizes-fit : length w ≤ longestText → t + length w ≤ longestTexts → sizesFrom text t j (n - j) ≡ sizesFrom text (t + length w) (j + 1) (n - (j + 1))
   unfolding sizesFrom
-  sizes-fit h k = rw (another, ← is, le-ltb longestText (length w) h, le-ltb longestTexts (t + length w) k)
+  sizes-fit h k = rw (one-left n j l, ← is, le-ltb longestText (length w) h, le-ltb longestTexts (t + length w) k)

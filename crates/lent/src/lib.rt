@@ -21,13 +21,14 @@ pub enum Answer {
     },
 }
 
-// The most bytes of one text, and of all texts together.
+// The most bytes of one text.
 pub const MAX_TEXT: usize = 4096;
 
+// The most bytes of all texts together.
 pub const MAX_TEXTS: usize = 32768;
 
 // The position at i, or 0 past the last.
-pub fn position(ends: &[usize], i: usize) -> usize
+fn position(ends: &[usize], i: usize) -> usize
     ensures { λ r. ⌜ r ≡ getD (now (ends .entry)) i 0 ⌝ }
 {
     if i < ends.len() { ends[i] } else { 0 }

@@ -23,9 +23,9 @@ module _ (rows : List ℕ) (n : ℕ) (h : n ≤ maxServices) where
   -- m is what the code found that s reaches, q whether s is in it
   pub own-at : (s m : ℕ) (q : Bool) → s < n → m ≡ pick (leb n mostRows && ltb s n) (reach (rowsAs rows) n s) 0 → q ≡ hasBit m s
       → q ≡ hasBit (reach (rowsAs rows) n s) s
-  own-at s m q l e g = g ∙ ap (λ (a : ℕ). hasBit a s) (e ∙ rw (le-leb n 32 h, lt-ltb s n l))
+  own-at s m q l e g = g ∙ ap (λ (a : ℕ). hasBit a s) (e ∙ rw (le-leb n maxServices h, lt-ltb s n l))
 
-  module _ (vs : List Settings) (f : Filled 0 (linksAt vs) 32 rows n) where
+  module _ (vs : List Settings) (f : Filled 0 (linksAt vs) maxServices rows n) where
     abbrev own : ℕ → Bool
     own s = hasBit (reach (rowsAs rows) n s) s
 
@@ -33,7 +33,7 @@ module _ (rows : List ℕ) (n : ℕ) (h : n ≤ maxServices) where
     unfolding lowestCyclic
     lowest-as =
         first-as own (λ s. hasBit (reach (linksAt vs) n s) s) n (λ i l. ap (λ (a : ℕ). hasBit a i) (reach-as (rowsAs rows) (linksAt vs) n (f .at) n i (omega arith) l))
-        ∙ ap (λ (b : Bool). pick b (first (λ s. hasBit (reach (linksAt vs) n s) s) n) n) (sym (le-leb n 32 h))
+        ∙ ap (λ (b : Bool). pick b (first (λ s. hasBit (reach (linksAt vs) n s) s) n) n) (sym (le-leb n maxServices h))
 
     pub lowest-found : (r : ℕ) → r ≡ first (λ s. hasBit (reach (rowsAs rows) n s) s) n → r ≡ pick (leb n maxServices) (lowestCyclic vs n) n
     lowest-found r e = e ∙ lowest-as
@@ -41,10 +41,10 @@ module _ (rows : List ℕ) (n : ℕ) (h : n ≤ maxServices) where
     pub lowest-none : (q : Bool) → q ≡ (leb n mostRows && cyclic (rowsAs rows) n) → q ≡ false → n ≡ pick (leb n maxServices) (lowestCyclic vs n) n
     unfolding cyclic
     lowest-none q e g =
-        let c : cyclic (rowsAs rows) n ≡ false = rw (le-leb n 32 h) at (sym e ∙ g) in
+        let c : cyclic (rowsAs rows) n ≡ false = rw (le-leb n maxServices h) at (sym e ∙ g) in
         first-empty 0 n refl
         ∙ (first-as (hasBit 0) own n (λ i l. hasBit-none i ∙ sym (some-false own n .0 c i l)) ∙ lowest-as)
 
 -- more services than places
 pub lowest-past : (vs : List Settings) (n : ℕ) → maxServices < n → n ≡ pick (leb n maxServices) (lowestCyclic vs n) n
-lowest-past vs n h = rw (lt-leb n 32 h)
+lowest-past vs n h = rw (lt-leb n maxServices h)

@@ -11,7 +11,7 @@ use Rattle.base.specs.Links.{reach}
 use Rattle.base.specs.Sets.{hasBit}
 use Rattle.service.specs.Limits.{maxServices}
 use Rattle.service.specs.Numbers.{signalAt}
-use Rattle.service.specs.Settings.{defaultSettings, noSettings}
+use Rattle.service.specs.Settings.{defaultSettings, linksOf, noSettings}
 use Rattle.service.specs.declared.Kind.{Kind}
 use Rattle.service.specs.declared.Kind.the-variants.{Internal, Process, Scripted}
 use Rattle.service.specs.declared.Settings.{Settings}
@@ -22,7 +22,7 @@ use Rattle.description.specs.Settings.{dependencyAt, descriptionAt, valueOf, wo
 use Rattle.description.specs.declared.Description.{Description}
 use Rattle.lent.specs.Checks.{find}
 use Rattle.lent.specs.Refusals.{refusedIn}
-use Rattle.lent.specs.declared.Answer.the-variants.{Accepted}
+use Rattle.lent.specs.declared.Answer.the-variants.{Accepted, Refused}
 use Rattle.linking.specs.declared.Linked.{Linked}
 use Rattle.linking.specs.declared.Links.{Links}
 use Rattle.linking.specs.declared.Services.{Services}
@@ -81,17 +81,18 @@ servicesFrom name text ds n vs j (suc m) =
     let r = linksFrom name n (text j) d noLinks 0 (d .count) in
     servicesOn (text j) j (r .answer) vs (servicesFrom name text ds n (set vs j (settingsOf d (r .links))) (j + 1) m)
 
-abbrev pub noneMade : Services
-noneMade = record { answer = Accepted; services = replicate maxServices defaultSettings }
+-- 1: "more than 32 services"
+abbrev pub tooMany : Services
+tooMany = record { answer = Refused 1 0 0; services = replicate maxServices defaultSettings }
 
--- the settings of a set of n services; for more than there are places nothing is made
+-- the settings of a set of n services
 unfoldable pub servicesIn : (ℕ → List ℕ) → (ℕ → List ℕ) → List Description → ℕ → Services
 servicesIn name text ds n =
-    pick (leb n maxServices) (servicesFrom name text ds n (replicate maxServices defaultSettings) 0 n) noneMade
+    pick (leb n maxServices) (servicesFrom name text ds n (replicate maxServices defaultSettings) 0 n) tooMany
 
--- all that a service depends on, "the three kinds together"
+-- all that service s depends on
 abbrev pub linksAt : List Settings → ℕ → ℕ
-linksAt vs s = bitOr (bitOr (getD vs s noSettings .hard) (getD vs s noSettings .milestone)) (getD vs s noSettings .soft)
+linksAt vs s = linksOf (getD vs s noSettings)
 
 -- "the lowest service on any cycle", or n where there is none
 unfoldable pub lowestCyclic : List Settings → ℕ → ℕ

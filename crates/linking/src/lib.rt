@@ -15,14 +15,14 @@ use service::Kind;
 use service::MAX_SERVICES;
 use service::Settings;
 use service::Signal;
+use service::all_links;
 use text::Fault;
 use text::Verdict;
 use text::part;
+use value::WORD_ROOM;
 ghost use mathlib.Core.Path.{_≡_};
 ghost use Prim.Native.Nat.{_≤_, _<_};
 ghost use lib.Dec.{leb};
-ghost use lib.ListN.{replicate};
-ghost use lib.Bits.{bitOr};
 ghost use Rattle.base.specs.Folds.{pick, first};
 ghost use Rattle.base.specs.Sets.{hasBit};
 ghost use Rattle.base.specs.Links.{reach};
@@ -30,12 +30,11 @@ ghost use Rattle.reach.specs.Rows.{rowsAs};
 ghost use Rattle.base.proofs.Filled.{Filled};
 ghost use Rattle.service.specs.Limits.{maxServices};
 ghost use Rattle.service.specs.Numbers.{signalAt};
-ghost use Rattle.service.specs.Settings.{defaultSettings};
 ghost use Rattle.description.specs.Settings.{wordAt, dependencyAt};
 ghost use Rattle.lent.specs.Parts.{nameAt, textAt};
 ghost use Rattle.lent.specs.Checks.{find};
 ghost use Rattle.lent.specs.declared.Answer.the-variants.{Accepted};
-ghost use Rattle.linking.specs.Links.{noLinks, withLink, linksFrom, kindAt, settingsOf, servicesFrom, servicesOn, noneMade, servicesIn, linksAt, lowestCyclic};
+ghost use Rattle.linking.specs.Links.{noLinks, withLink, linksFrom, kindAt, settingsOf, servicesFrom, servicesOn, servicesIn, linksAt, lowestCyclic};
 
 // The services that a service depends on, as sets: by depends-on, by depends-ms and by waits-for.
 pub struct Links {
@@ -69,7 +68,7 @@ fn dependency_at(d: Description, k: usize) -> Dependency
 fn find_word(lent: &[u8], ends: &[usize], n: usize, text: &[u8], at: usize) -> usize
     ensures { λ r. ⌜ r ≡ find (nameAt (now (lent .entry)) (now (ends .entry))) n (wordAt (now (text .entry)) at) ⌝ }
 {
-    let mut buffer = [0u8; 33];
+    let mut buffer = [0u8; WORD_ROOM];
     let m = write_word_at(text, at, &mut buffer);
     find_name(lent, ends, n, part(&buffer, 0, m))
 }
@@ -151,40 +150,20 @@ fn kind_of(k: u64) -> Kind
     Kind::Internal
 }
 
-// The signals from QUIT on.
-fn late_signal(g: u64) -> Signal
-    requires { ⌜ 4 ≤ g ⌝ }
-    ensures { λ r. ⌜ r ≡ signalAt g ⌝ }
-{
-    if g == 4 {
-        return Signal::Quit;
-    }
-    if g == 5 {
-        return Signal::Usr1;
-    }
-    if g == 6 {
-        return Signal::Usr2;
-    }
-    Signal::Kill
-}
-
 // A signal by its place in paper 01's list.
 fn signal_of(g: u64) -> Signal
     ensures { λ r. ⌜ r ≡ signalAt g ⌝ }
 {
-    if g == 0 {
-        return Signal::None;
+    match g {
+        0 => Signal::None,
+        1 => Signal::Hup,
+        2 => Signal::Int,
+        3 => Signal::Term,
+        4 => Signal::Quit,
+        5 => Signal::Usr1,
+        6 => Signal::Usr2,
+        _ => Signal::Kill,
     }
-    if g == 1 {
-        return Signal::Hup;
-    }
-    if g == 2 {
-        return Signal::Int;
-    }
-    if g == 3 {
-        return Signal::Term;
-    }
-    late_signal(g)
 }
 
 // The settings of a service, by property number.
@@ -260,7 +239,7 @@ fn refuse(text: &[u8], j: usize, v: Verdict, services: [Settings; MAX_SERVICES])
     }
 }
 
-// The settings of a set of n services, or the first dependency on a service not in it. For more than there are places nothing is made.
+// The settings of a set of n services, or the first dependency on a service not in it. More than there are places are refused (1).
 pub fn make_services(
     lent: &[u8],
     ends: &[usize],
@@ -275,28 +254,25 @@ pub fn make_services(
         return make(lent, ends, n, ds, services);
     }
     Services {
-        answer: Answer::Accepted,
+        answer: Answer::Refused {
+            number: 1,
+            service: 0,
+            line: 0,
+        },
         services,
     }
-}
-
-// All that a service depends on, of the three kinds.
-fn links_of(v: Settings) -> u64
-    ensures { λ r. ⌜ r ≡ bitOr (bitOr (v .hard) (v .milestone)) (v .soft) ⌝ }
-{
-    v.hard | v.milestone | v.soft
 }
 
 // What each of the first n services depends on.
 fn link_rows(services: [Settings; MAX_SERVICES], n: usize) -> [u64; MAX_SERVICES]
     requires { ⌜ n ≤ maxServices ⌝ }
-    ensures { λ r. ⌜ Filled 0 (linksAt services) 32 r n ⌝ }
+    ensures { λ r. ⌜ Filled 0 (linksAt services) maxServices r n ⌝ }
 {
     let mut rows = [0u64; MAX_SERVICES];
     let mut i: usize = 0;
     while i < n {
         let v = services[i];
-        rows[i] = links_of(v);
+        rows[i] = all_links(v);
         i += 1;
     }
     rows

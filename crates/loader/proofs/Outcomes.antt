@@ -1,13 +1,12 @@
--- The laws of a load's outcome: the way on after a pass or a test, and the refusal in its place.
--- ---- a pass, and a test
+-- The laws of a load's outcome: the way on after a pass or a test, the refusal in its place, and what holds of every outcome.
 use Prim.Native.Nat.{_<_, _≤_, ℕ}
-use borrow.Author.Tests.{le-leb, lt-leb}
+use borrow.Author.Tests.{le-leb, leb-true, lt-leb}
 use lib.Dec.{leb}
 use lib.ListN.{length, replicate}
 use lib.Seq.{sets}
 use mathlib.Core.Bool.{Bool, false, true}
 use mathlib.Core.List.{List}
-use mathlib.Core.Path.{_∙_, _≡_, ap, sym}
+use mathlib.Core.Path.{_∙_, _≡_, ap, refl, sym}
 use Rattle.base.specs.Folds.{pick}
 use Rattle.service.specs.Limits.{maxServices}
 use Rattle.service.specs.Settings.{defaultSettings, noServices}
@@ -21,10 +20,12 @@ use Rattle.lent.specs.Checks.{namesFrom, sizesFrom}
 use Rattle.lent.specs.Parts.{nameAt, positioned, serviceCount, textAt}
 use Rattle.lent.specs.declared.Answer.{Answer}
 use Rattle.lent.specs.declared.Answer.the-variants.{Accepted, Refused}
-use Rattle.linking.specs.Links.{lowestCyclic, noneMade, servicesFrom, servicesIn}
+use Rattle.linking.specs.Links.{lowestCyclic, tooMany, servicesFrom, servicesIn}
 use Rattle.linking.specs.declared.Services.{Services}
 use Rattle.storing.specs.Tokens.{bytesFrom, commandsFrom, noCommands}
 use Rattle.storing.specs.declared.Commands.{Commands}
+
+-- ---- a pass, and a test
 
 module _ (buffer : List ℕ) where
   pub pass-on : {a : Answer} {o x : Outcome} → a ≡ Accepted → o ≡ x → o ≡ passed buffer a x
@@ -66,7 +67,7 @@ module _ (text : ℕ → List ℕ) (buffer : List ℕ) (n : ℕ) (ds : List Desc
 
   module _ (h : n ≤ maxServices) {low : ℕ} (e : low ≡ pick (leb n maxServices) (lowestCyclic vs n) n) where
     low-as : low ≡ lowestCyclic vs n
-    low-as = e ∙ rw (le-leb n 32 h)
+    low-as = e ∙ rw (le-leb n maxServices h)
 
     pub acyclic-on : n ≤ low → {o : Outcome} → o ≡ stored text buffer n ds vs → o ≡ acyclic text buffer n ds vs
     unfolding acyclic
@@ -85,7 +86,7 @@ module _ (name text : ℕ → List ℕ) (buffer : List ℕ) (n : ℕ) where
   module _ (ds : List Description) (h : n ≤ maxServices) {m : Services} (e : m ≡ servicesIn name text ds n) where
     made-as : m ≡ servicesFrom name text ds n (replicate maxServices defaultSettings) 0 n
     unfolding servicesIn
-    made-as = e ∙ ap (λ (b : Bool). pick b (servicesFrom name text ds n (replicate maxServices defaultSettings) 0 n) noneMade) (le-leb n 32 h)
+    made-as = e ∙ ap (λ (b : Bool). pick b (servicesFrom name text ds n (replicate maxServices defaultSettings) 0 n) tooMany) (le-leb n maxServices h)
 
     abbrev made : Outcome
     made = withServices text buffer n ds (servicesFrom name text ds n (replicate maxServices defaultSettings) 0 n)
@@ -147,14 +148,64 @@ module _ (lent ends buffer : List ℕ) where
   pub load-many : maxServices < serviceCount ends → {r : Loaded} → r ≡ record { answer = Refused 1 0 0; table = noServices; commands = noCommands }
       → record { loaded = r; buffer = buffer } ≡ load lent ends buffer
   unfolding load
-  load-many h q = test-not buffer 1 0 _ (lt-leb (serviceCount ends) 32 h) q
+  load-many h q = test-not buffer 1 0 _ (lt-leb (serviceCount ends) maxServices h) q
 
   module _ (h : serviceCount ends ≤ maxServices) {p : Bool} (e : p ≡ positioned lent ends) where
     pub load-placed : p ≡ false → {r : Loaded} → r ≡ record { answer = Refused 2 0 0; table = noServices; commands = noCommands }
         → record { loaded = r; buffer = buffer } ≡ load lent ends buffer
     unfolding load
-    load-placed g q = test-on buffer 1 0 (le-leb (serviceCount ends) 32 h) (test-not buffer 2 0 _ (sym e ∙ g) q)
+    load-placed g q = test-on buffer 1 0 (le-leb (serviceCount ends) maxServices h) (test-not buffer 2 0 _ (sym e ∙ g) q)
 
     pub load-on : p ≡ true → {o : Outcome} → o ≡ loadSet (nameAt lent ends) (textAt lent ends) (serviceCount ends) buffer → o ≡ load lent ends buffer
     unfolding load
-    load-on g q = test-on buffer 1 0 (le-leb (serviceCount ends) 32 h) (test-on buffer 2 0 (sym e ∙ g) q)
+    load-on g q = test-on buffer 1 0 (le-leb (serviceCount ends) maxServices h) (test-on buffer 2 0 (sym e ∙ g) q)
+
+-- ---- what holds of every refusal, and of what is stored where no number is due, holds of every load
+
+-- the descriptions and the settings of a lent set
+abbrev pub setDescriptions : List ℕ → List ℕ → List Description
+setDescriptions lent ends = descriptionsFrom (textAt lent ends) noDescriptions 0 (serviceCount ends) .descriptions
+
+abbrev pub setServices : List ℕ → List ℕ → List Settings
+setServices lent ends =
+    servicesFrom (nameAt lent ends) (textAt lent ends) (setDescriptions lent ends) (serviceCount ends) (replicate maxServices defaultSettings) 0 (serviceCount ends) .services
+
+abbrev pub setBytes : List ℕ → List ℕ → List ℕ
+setBytes lent ends = bytesFrom (textAt lent ends) (setDescriptions lent ends) 0 (serviceCount ends)
+
+abbrev pub setLoaded : List ℕ → List ℕ → List ℕ → Outcome
+setLoaded lent ends buffer = record {
+  loaded = record {
+    answer = Accepted;
+    table = record { count = serviceCount ends; services = setServices lent ends };
+    commands = commandsFrom (textAt lent ends) (setDescriptions lent ends) 0 noCommands 0 (serviceCount ends);
+  };
+  buffer = sets buffer 0 (setBytes lent ends);
+}
+
+module _ (P : Outcome → Type 0) (buffer : List ℕ) (refused : (k s l : ℕ) → P (refusedWith buffer (Refused k s l))) where
+  after-pass : (a : Answer) (o : Outcome) → P o → P (passed buffer a o)
+  after-pass Accepted o h = h
+  after-pass (Refused k s l) o h = refused k s l
+
+  after-test : (b : Bool) (k s : ℕ) (o : Outcome) → (b ≡ true → P o) → P (tested buffer b k s o)
+  after-test true k s o h = h refl
+  after-test false k s o h = refused k s 0
+
+  pub every-load : (lent ends : List ℕ)
+      → (serviceCount ends ≤ maxServices → leb (serviceCount ends) (lowestCyclic (setServices lent ends) (serviceCount ends)) ≡ true → P (setLoaded lent ends buffer))
+      → P (load lent ends buffer)
+  unfolding load loadSet acyclic stored
+  every-load lent ends whole =
+      after-test (leb n maxServices) 1 0 _ λ few.
+      after-test (positioned lent ends) 2 0 _ λ _.
+      after-pass (namesFrom (nameAt lent ends) 0 n) _
+      (after-pass (sizesFrom (textAt lent ends) 0 0 n) _
+      (after-pass (descriptionsFrom (textAt lent ends) noDescriptions 0 n .answer) _
+      (after-pass (servicesFrom (nameAt lent ends) (textAt lent ends) (setDescriptions lent ends) n (replicate maxServices defaultSettings) 0 n .answer) _
+      (after-test (leb n (lowestCyclic (setServices lent ends) n)) 16 (lowestCyclic (setServices lent ends) n) _ λ none.
+      after-test (leb (length (setBytes lent ends)) (length buffer)) 25 0 _ λ _.
+      whole (leb-true n maxServices few) none))))
+    where
+      n : ℕ
+      n = serviceCount ends

@@ -2,16 +2,12 @@
 use Prim.Native.Nat.{ℕ, _+_}
 use Prim.Native.String.{String}
 use mathlib.Core.Path.{_≡_, refl}
-use mathlib.Core.Bool.{true, false}
 use mathlib.Core.List.{List, [], _∷_, _++_, map}
 use lib.ListN.{length, replicate}
 use Rattle.base.specs.Folds.{some, first}
 use Rattle.base.specs.Sets.{hasBit}
 use Rattle.base.specs.Links.{reach}
-use Rattle.service.specs.declared.Kind.the-variants.{Process}
-use Rattle.service.specs.declared.Signal.the-variants.{Term}
-use Rattle.service.specs.declared.Settings.{Settings}
-use Rattle.service.specs.Settings.{defaultSettings}
+use Rattle.service.specs.Settings.{defaultSettings, process}
 use Rattle.text.specs.Strings.{bytes, same, indexFrom, partOf}
 use Rattle.text.specs.Bytes.{run}
 use Rattle.text.specs.Lines.{lineOf, linesOf, badFrom, lineFrom, lineNumber, opening}
@@ -62,22 +58,6 @@ pair =
     service "reader" "type = process\ncommand = /bin/reader\nrestart = yes\n" ∷
     service "averager" "type = process\ncommand = averager -n 5\ndepends-on: reader\nrestart = yes\n" ∷
     []
-
-abbrev process : ℕ → Settings
-process h = record {
-  kind = Process;
-  restart = true;
-  «has_stop» = false;
-  signal = Term;
-  delay = 2000;
-  interval = 100000;
-  limit = 3;
-  «start_timeout» = 600000;
-  «stop_timeout» = 100000;
-  hard = h;
-  milestone = 0;
-  soft = 0;
-}
 
 abbrev tokensAt : ℕ → ℕ → ℕ → Commands
 tokensAt at n e = record { start = record { at = at; count = n }; stop = record { at = e; count = 0 } }

@@ -30,7 +30,8 @@ ghost use Rattle.lent.specs.declared.Answer.the-variants.{Accepted};
 ghost use Rattle.lent.specs.Parts.{nameAt, textAt};
 ghost use Rattle.linking.specs.Links.{servicesFrom};
 ghost use Rattle.storing.specs.Tokens.{bytesFrom, commandBytes, commandsAt, commandsFrom, noCommands, roomOf};
-ghost use Rattle.loader.specs.Short.{Short};
+ghost use Rattle.lent.specs.Checks.{longestText};
+ghost use Rattle.loader.specs.Short.{Short, mostRoom};
 ghost use Rattle.loader.specs.Texts.{descriptionsFrom, descriptionsOn, noDescriptions};
 ghost use Rattle.loader.specs.Load.{Outcome, acyclic, load, loadSet, stored, withDescriptions, withServices};
 
@@ -106,8 +107,8 @@ fn read_texts(lent: &[u8], ends: &[usize], n: usize) -> Descriptions
 
 // The room that a service's two commands take.
 fn room_of(text: &[u8], d: Description) -> usize
-    requires { ⌜ length (now text) ≤ 4096 ⌝ }
-    ensures { λ r. ⌜ (r ≡ roomOf (now (text .entry)) d) × (r ≤ 8194) ⌝ }
+    requires { ⌜ length (now text) ≤ longestText ⌝ }
+    ensures { λ r. ⌜ (r ≡ roomOf (now (text .entry)) d) × (r ≤ mostRoom) ⌝ }
 {
     let start = d.values[1] as usize;
     let stop = d.values[2] as usize;
@@ -118,7 +119,7 @@ fn room_of(text: &[u8], d: Description) -> usize
 
 // Where the tokens of a service's two commands are, from the place o on.
 fn place_commands(text: &[u8], d: Description, o: usize) -> Commands
-    requires { ⌜ (length (now text) ≤ 4096) × (o < 4294967296) ⌝ }
+    requires { ⌜ (length (now text) ≤ longestText) × (o < 4294967296) ⌝ }
     ensures { λ r. ⌜ r ≡ commandsAt o (now (text .entry)) d ⌝ }
 {
     let start = d.values[1] as usize;
@@ -136,30 +137,6 @@ fn place_commands(text: &[u8], d: Description, o: usize) -> Commands
             count: second,
         },
     }
-}
-
-// Where the tokens of each service are, put into the places given.
-fn place_all(
-    lent: &[u8],
-    ends: &[usize],
-    n: usize,
-    ds: [Description; MAX_SERVICES],
-    none: [Commands; MAX_SERVICES],
-) -> [Commands; MAX_SERVICES]
-    requires { ⌜ (n ≤ maxServices) × Short (textAt (now lent) (now ends)) n ⌝ }
-    ensures { λ r. ⌜ r ≡ commandsFrom (textAt (now (lent .entry)) (now (ends .entry))) ds 0 none 0 n ⌝ }
-{
-    let mut all = none;
-    let mut o: usize = 0;
-    let mut j: usize = 0;
-    while j < n {
-        let text = text_at(lent, ends, j);
-        let d = ds[j];
-        all[j] = place_commands(text, d, o);
-        o += room_of(text, d);
-        j += 1;
-    }
-    all
 }
 
 // The room that all tokens take.
@@ -180,7 +157,7 @@ fn room_for(lent: &[u8], ends: &[usize], n: usize, ds: [Description; MAX_SERVICE
 
 // Writes the tokens of a service's two commands from the place o on.
 fn write_commands(text: &[u8], d: Description, tokens: &mut [u8], o: usize)
-    requires { ⌜ (length (now text) ≤ 4096) × (o < 4294967296) ⌝ }
+    requires { ⌜ (length (now text) ≤ longestText) × (o < 4294967296) ⌝ }
     ensures { λ _. ⌜ now (tokens .exit) ≡ sets (now (tokens .entry)) o (commandBytes (now (text .entry)) (valueOf d 1) ++ commandBytes (now (text .entry)) (valueOf d 2)) ⌝ }
 {
     let start = d.values[1] as usize;
@@ -191,45 +168,43 @@ fn write_commands(text: &[u8], d: Description, tokens: &mut [u8], o: usize)
     write_command(text, stop, tokens, p);
 }
 
-// Writes the tokens of all services from the start of the buffer on.
+// Writes the tokens of all services from the start of the buffer on, and tells where they are, put into the places given.
 fn write_all(
     lent: &[u8],
     ends: &[usize],
     n: usize,
     ds: [Description; MAX_SERVICES],
+    none: [Commands; MAX_SERVICES],
     tokens: &mut [u8],
-)
+) -> [Commands; MAX_SERVICES]
     requires { ⌜ (n ≤ maxServices) × Short (textAt (now lent) (now ends)) n ⌝ }
-    ensures { λ _. ⌜ now (tokens .exit) ≡ sets (now (tokens .entry)) 0 (bytesFrom (textAt (now (lent .entry)) (now (ends .entry))) ds 0 n) ⌝ }
+    ensures { λ r. ⌜ r ≡ commandsFrom (textAt (now (lent .entry)) (now (ends .entry))) ds 0 none 0 n ⌝ }
+    ensures written { λ r. ⌜ now (tokens .exit) ≡ sets (now (tokens .entry)) 0 (bytesFrom (textAt (now (lent .entry)) (now (ends .entry))) ds 0 n) ⌝ }
 {
+    let mut all = none;
     let mut o: usize = 0;
     let mut j: usize = 0;
     while j < n {
         let text = text_at(lent, ends, j);
         let d = ds[j];
+        all[j] = place_commands(text, d, o);
         write_commands(text, d, tokens, o);
         o += room_of(text, d);
         j += 1;
     }
+    all
 }
 
 // What is beside a refusal: the table of no services, and no commands.
 fn refuse(answer: Answer) -> Loaded
     ensures { λ r. ⌜ r ≡ record { answer = answer; table = noServices; commands = noCommands } ⌝ }
 {
-    let settings = Settings::default();
-    let none = Tokens { at: 0, count: 0 };
-    let commands = Commands {
-        start: none,
-        stop: none,
-    };
+    let table = Table::empty();
+    let none = Commands::NONE;
     Loaded {
         answer,
-        table: Table {
-            count: 0,
-            services: [settings; MAX_SERVICES],
-        },
-        commands: [commands; MAX_SERVICES],
+        table,
+        commands: [none; MAX_SERVICES],
     }
 }
 
@@ -247,13 +222,8 @@ fn store(
 {
     let room = room_for(lent, ends, n, ds);
     if room <= tokens.len() {
-        write_all(lent, ends, n, ds, tokens);
-        let none = Tokens { at: 0, count: 0 };
-        let unplaced = Commands {
-            start: none,
-            stop: none,
-        };
-        let commands = place_all(lent, ends, n, ds, [unplaced; MAX_SERVICES]);
+        let none = Commands::NONE;
+        let commands = write_all(lent, ends, n, ds, [none; MAX_SERVICES], tokens);
         let answer = Answer::Accepted;
         return Loaded {
             answer,

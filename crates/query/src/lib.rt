@@ -7,9 +7,8 @@ use service::State;
 use service::Table;
 use wellformed::is_formed;
 ghost use mathlib.Core.Path.{_≡_};
-ghost use Prim.Native.Nat.{_≤_};
 ghost use Rattle.service.specs.declared.Deadline.the-variants.{At};
-ghost use Rattle.rules.specs.Runs.{above, sooner};
+ghost use Rattle.rules.specs.Runs.{above, sooner, soonerOf};
 ghost use Rattle.rules.specs.Calls.{query as queryCall, outcome, queryOutcome};
 
 // A time above the clock, or none.
@@ -55,7 +54,7 @@ fn sooner_of(a: Deadline, b: Deadline) -> Deadline
 
 // The earliest time so far, and the deadline and the not-before of one more service.
 fn with_times(d: Deadline, now: u64, r: Record) -> Deadline
-    ensures { λ e. ⌜ e ≡ sooner (sooner d (above now (r .deadline))) (above now (At (r .«not_before»))) ⌝ }
+    ensures { λ e. ⌜ e ≡ soonerOf now d r ⌝ }
 {
     let e = r.deadline;
     let f = sooner_of(d, time_above(now, e));

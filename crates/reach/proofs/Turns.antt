@@ -2,14 +2,14 @@
 use Prim.Native.Nat.{ℕ, _+_, _≤_, _<_}
 use native.Mathlib.Nat.{not-suc-le-zero, eq-or-lt-of-le}
 use native.Mathlib.Omega.{arith}
-use mathlib.Core.Path.{_≡_, refl, sym, ap, _∙_, subst}
+use mathlib.Core.Path.{_≡_, sym, ap, _∙_, subst}
 use mathlib.Core.Bool.{Bool, true, false, _&&_, false≢true}
 use mathlib.Core.List.{List}
 use lib.Dec.{leb}
 use borrow.Author.Tests.{eqb-true}
 use Rattle.base.specs.Sets.{hasBit, single}
 use Rattle.base.specs.Links.{Path, link, on, reach, cyclic}
-use Rattle.base.proofs.Tests.{and-true, or-true, either, refute, no-ft}
+use Rattle.base.proofs.Tests.{and-none, and-true, or-true, either, refute, no-ft}
 use Rattle.base.proofs.Below.{some-false}
 use Rattle.base.proofs.Bits.{hasBit-or, hasBit-and, hasBit-none}
 use Rattle.base.proofs.Sets.{single-only}
@@ -77,8 +77,4 @@ module _ {rows : List ℕ} {n : ℕ} where
 
 -- b is what the turns said
 pub peeled-none : (rows : List ℕ) (n : ℕ) (b : Bool) → AllSafe rows n b → b ≡ true → false ≡ (leb n mostRows && cyclic (rowsAs rows) n)
-peeled-none rows n b h e = rw (safe-acyclic (rowsAs rows) n (h .safes e)) (and-no (leb n mostRows))
-  where
-    and-no : (x : Bool) → false ≡ (x && false)
-    and-no true = refl
-    and-no false = refl
+peeled-none rows n b h e = rw (safe-acyclic (rowsAs rows) n (h .safes e)) (sym (and-none (leb n mostRows)))

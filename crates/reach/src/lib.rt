@@ -71,10 +71,10 @@ fn is_cyclic(n: usize, rows: [u64; MAX_ROWS]) -> bool
     has_own(n, &all)
 }
 
-fn is_subset(m: u64, c: u64) -> bool
-    ensures { λ b. ⌜ b ≡ subset m c ⌝ }
+fn is_subset(a: u64, b: u64) -> bool
+    ensures { λ r. ⌜ r ≡ subset a b ⌝ }
 {
-    (m & c) == m
+    (a & b) == a
 }
 
 fn grow(done: u64, m: u64, i: usize, q: bool) -> u64

@@ -22,7 +22,7 @@ use value::Scan;
 use value::scan_value;
 use word::property;
 ghost use mathlib.Core.Path.{_≡_};
-ghost use Prim.Native.Nat.{_+_, _<_, _≤_};
+ghost use Prim.Native.Nat.{_+_, _<_};
 ghost use lib.ListN.{length};
 ghost use Rattle.text.specs.Lines.{linesOf};
 ghost use Rattle.text.proofs.Lines.{Inside};
@@ -75,7 +75,7 @@ fn read_property(text: &[u8], d: Description, from: usize, line: &[u8], s: Place
 {
     let start = from + s.from;
     let v = s.value;
-    let unknown = p == 14;
+    let unknown = p == PROPERTIES;
     if unknown {
         return Line::Bad(Fault {
             number: 10,
@@ -115,7 +115,7 @@ fn read_line(text: &[u8], d: Description, from: usize, line: &[u8], o: Opening) 
     }
 }
 
-pub fn says_nothing(o: Opening) -> bool
+fn says_nothing(o: Opening) -> bool
     ensures { λ r. ⌜ r ≡ isSilent o ⌝ }
 {
     match o {

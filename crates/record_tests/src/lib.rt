@@ -3,9 +3,7 @@ use service::Cause;
 use service::Kind;
 use service::Phase;
 use service::Record;
-use service::Settings;
 ghost use mathlib.Core.Path.{_≡_};
-ghost use lib.Bits.{bitOr};
 ghost use Rattle.service.specs.Settings.{isProcess, isScripted};
 ghost use Rattle.service.specs.Records.{isDown, isWaiting, isStarting, isUp, isEnding, active, isNone, isUser};
 ghost use Rattle.rules.specs.Dependencies.{serving, closing, barred};
@@ -134,7 +132,9 @@ pub fn is_serving(r: Record) -> bool
 {
     let p = r.phase;
     let c = r.cause;
-    is_up(p) & is_none(c)
+    let up = is_up(p);
+    let free = is_none(c);
+    up & free
 }
 
 // Up with a cause.
@@ -161,18 +161,4 @@ pub fn is_running(r: Record) -> bool
     let p = r.phase;
     let c = r.cause;
     (is_starting(p) | is_up(p)) & is_none(c)
-}
-
-// The services that one depends on by depends-on or depends-ms.
-pub fn strong_links(v: Settings) -> u64
-    ensures { λ m. ⌜ m ≡ bitOr (v .hard) (v .milestone) ⌝ }
-{
-    v.hard | v.milestone
-}
-
-// The services that one depends on by any kind.
-pub fn all_links(v: Settings) -> u64
-    ensures { λ m. ⌜ m ≡ bitOr (bitOr (v .hard) (v .milestone)) (v .soft) ⌝ }
-{
-    v.hard | v.milestone | v.soft
 }

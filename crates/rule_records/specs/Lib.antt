@@ -1,1 +1,2 @@
-pub mod Left
+-- The definitions, each file after those that it cites.
+pub mod Launched

@@ -14,17 +14,16 @@ use settling::settle;
 use settling::with_cause;
 use settling::with_phase;
 ghost use mathlib.Core.Path.{_≡_};
-ghost use mathlib.Core.Bool.{Bool, true, false};
+ghost use mathlib.Core.Bool.{true, false};
 ghost use Prim.Native.Nat.{_≤_};
 ghost use Rattle.base.specs.Folds.{pick};
 ghost use Rattle.service.specs.declared.Cause.the-variants.{User, Fell, Failed};
 ghost use Rattle.service.specs.Limits.{longestTime, lastClock};
-ghost use Rattle.service.specs.Records.{isUser};
-ghost use Rattle.rules.specs.Rules.{deadlineIn, abandoned, released, begun, ending, expired};
+ghost use Rattle.service.specs.Records.{isStarting, isUser};
+ghost use Rattle.rules.specs.Rules.{deadlineIn, abandoned, released, begun, ending, expired, leftBy};
 ghost use Rattle.settling.specs.Sound.{sound, Sound};
 ghost use Rattle.rules.specs.Events.{withCause};
-ghost use Rattle.rules.specs.declared.Rule.the-variants.{Expire};
-ghost use Rattle.rule_records.specs.Left.{leftBy, launchedAs};
+ghost use Rattle.rule_records.specs.Launched.{launchedAs};
 
 // The deadline at the end of a timeout; none where that is 0.
 fn deadline_in(now: u64, timeout: u64) -> Deadline
@@ -189,7 +188,7 @@ fn kill(v: Settings, now: u64, r: Record) -> Record
 
 fn expire(v: Settings, now: u64, r: Record) -> Record
     requires { ⌜ Sound v now r ⌝ }
-    ensures { λ q. ⌜ q ≡ leftBy Expire true v now r ⌝ }
+    ensures { λ q. ⌜ q ≡ expired (isStarting (r .phase)) v now r ⌝ }
 {
     let p = r.phase;
     if is_starting(p) {

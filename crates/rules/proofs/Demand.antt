@@ -12,11 +12,11 @@ use Rattle.rules.specs.Calls.{Call, afterCalls, check, clock, outcome, s
 use Rattle.rules.specs.Demand.{Demand3, NoZeroTimeout, Now, Round, Rounds, Stretch, WoundDown, another, call, empty, freshNow, no-rounds, nowAfter, nowAt, round, wound}
 use Rattle.rules.specs.Events.{afterStopAll}
 use Rattle.rules.specs.WellFormed.{tableFormed}
-use Rattle.rules.proofs.Doom.{drift-begins}
+use Rattle.rules.proofs.Halting.{since-begins}
 use Rattle.rules.proofs.Formed.{sound-formed}
 use Rattle.rules.proofs.Links.{TableSound, table-sound}
 use Rattle.rules.proofs.Resting.{always-rests}
-use Rattle.rules.proofs.Rounds.{Fate, Reached, all-down, fate-stretch, fresh-reached, quiet-stretch, reached-call}
+use Rattle.rules.proofs.Rounds.{HaltingSince, Reached, all-down, halt-stretch, fresh-reached, quiet-stretch, reached-call}
 use Rattle.rules.proofs.Safety.{always-safe}
 
 append-calls : (t : Table) (x : State) (a b : List Call) → afterCalls t x (a ++ b) ≡ afterCalls t (afterCalls t x a) b
@@ -64,9 +64,9 @@ module _ (t : Table) (tf : tableFormed t ≡ true) (nz : NoZeroTimeout t) where
   unfolding nowAfter outcome check
   stop-state n h = rw (sound-formed t (n .state) tf (h .good .kept .sound))
 
-  stop-fate : (n : Now) → Reached t tf ts nz n → Fate t tf ts nz (nowAfter t n stopAll .state) (nowAfter t n stopAll)
-  stop-fate n h = record {
-    drift = rw (stop-state n h) (drift-begins t (ts .few) (n .state) (h .timed .sized));
+  stop-halt : (n : Now) → Reached t tf ts nz n → HaltingSince t tf ts nz (nowAfter t n stopAll .state) (nowAfter t n stopAll)
+  stop-halt n h = record {
+    since = rw (stop-state n h) (since-begins t (ts .few) (n .state) (h .timed .sized));
     reached = reached-call t tf ts nz n h stopAll;
   }
 
@@ -75,8 +75,8 @@ module _ (t : Table) (tf : tableFormed t ≡ true) (nz : NoZeroTimeout t) where
       let n0 : Now = nowAt t freshNow before in
       let n1 : Now = nowAfter t n0 stopAll in
       let h = reached-at before freshNow (fresh-reached t tf ts nz) in
-      let a = all-down t tf ts nz rs (stop-fate n0 h) in
-      let d : isDown (recordAt (n′ .state) s .phase) ≡ true = fate-stretch t tf ts nz (n .state) st (a .0) .drift .goes s l .down (a .1 s l) in
+      let a = all-down t tf ts nz rs (stop-halt n0 h) in
+      let d : isDown (recordAt (n′ .state) s .phase) ≡ true = halt-stretch t tf ts nz (n .state) st (a .0) .since .goes s l .down (a .1 s l) in
       let here′ : afterCalls t freshState (before ++ (stopAll ∷ (rounds ++ after))) ≡ n′ .state =
       append-calls t freshState before (stopAll ∷ (rounds ++ after))
       ∙ ap (λ (y : State). afterCalls t y (stopAll ∷ (rounds ++ after))) (sym (now-state t before freshNow))

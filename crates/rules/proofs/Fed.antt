@@ -1,26 +1,22 @@
 -- A set that is fed the calls with their answers: what holds at each mark, and what the set and the state keep, from what
 -- each kind of accepted call does. Refusals and runs are dealt with once, here.
 use Prim.Native.Nat.{_*_, _<_, _≤_, suc, zero, ℕ}
-use borrow.Author.Tests.{leb-true, ltb-true}
-use lib.Dec.{leb, ltb}
 use lib.ListN.{length}
-use mathlib.Core.Bool.{Bool, _&&_, false, true}
+use mathlib.Core.Bool.{Bool}
 use mathlib.Core.List.{List, [], _++_, _∷_}
 use mathlib.Core.Path.{_≡_, ap₂, refl}
 use Rattle.base.specs.Folds.{listed}
 use Rattle.base.proofs.Lists.{listed-as}
-use Rattle.base.proofs.Tests.{and-true}
 use Rattle.service.specs.Limits.{lastClock}
-use Rattle.service.specs.Records.{recordAt}
 use Rattle.service.specs.declared.Action.{Action}
 use Rattle.service.specs.declared.State.{State}
 use Rattle.service.specs.declared.Table.{Table}
-use Rattle.rules.specs.Calls.{Call, Outcome, afterCalls, check, clock, end, next, outcome, query, run, start, stop, stopAll}
+use Rattle.rules.specs.Calls.{Call, Outcome, afterCalls, outcome}
 use Rattle.rules.specs.Demand.{Mark, Set, deadlineKill, ended, fed, handed, marks, marksOf, readBack, story}
 use Rattle.rules.specs.Events.{afterClock, afterEnd, afterStart, afterStop, afterStopAll}
 use Rattle.rules.specs.Rules.{nextAction}
 use Rattle.rules.specs.Runs.{actionAfter, stateAfter, stepsToQuiet, writtenActions, writtenServices}
-use Rattle.rules.specs.WellFormed.{formed}
+use Rattle.rules.proofs.Came.{Came, acts, came, clocks, ends, refuses, runs, starts, stops, stops-all, tells}
 use Rattle.rules.proofs.Runs.{action-first, action-none, after-first, after-none, read-back}
 
 -- C holds at each mark, with the set as it is there
@@ -64,54 +60,45 @@ module _ (t : Table) (C : Set → Mark → Type 0) (F : Mark → Set → Set) (I
 
   module _ (h : Feeds) where
     -- the marks of n actions in a row
-    runs : (n : ℕ) (v : Set) (x : State) → I v x → Leads v (listed (λ i. handed (actionAfter t x i) (deadlineKill t (stateAfter t x i))) n) (stateAfter t x n)
+    in-a-row : (n : ℕ) (v : Set) (x : State) → I v x → Leads v (listed (λ i. handed (actionAfter t x i) (deadlineKill t (stateAfter t x i))) n) (stateAfter t x n)
     unfolding listed
-    runs zero v x i = rw (after-none t x) (silent v x i)
-    runs (suc n) v x i =
+    in-a-row zero v x i = rw (after-none t x) (silent v x i)
+    in-a-row (suc n) v x i =
         let k = h .acts v x i in
         rw (after-first t x n, action-none t x, after-none t x)
         (first-then v (handed (nextAction t x .action) (deadlineKill t x)) _ _ (k .0)
         (rw
         (listed-as (λ j. handed (actionAfter t x (suc j)) (deadlineKill t (stateAfter t x (suc j)))) (λ j. handed (actionAfter t (nextAction t x .state) j) (deadlineKill t (stateAfter t (nextAction t x .state) j))) n
         (λ j _. ap₂ (λ (a : Action) (y : State). handed a (deadlineKill t y)) (action-first t x j) (after-first t x j)))
-        (runs n _ (nextAction t x .state) (k .1))))
+        (in-a-row n _ (nextAction t x .state) (k .1))))
 
     module _ (v : Set) (x : State) (i : I v x) where
       -- what a call leads to, by its outcome
       abbrev LeadsBy : Call → Outcome → Type 0
       LeadsBy c o = Leads v (marksOf t x c (o .answer) (o .services) (o .actions)) (o .state)
 
-      -- a refusal leaves all
-      checked : (c : Call) (b : Bool) (k : ℕ) (o : Outcome) → (b ≡ true → LeadsBy c o) → LeadsBy c (check c x b k o)
-      unfolding check marksOf
-      checked c true k o p = p refl
-      checked c false k o p = silent v x i
-
       one : (m : Mark) (y : State) → C v m × I (F m v) y → Leads v (m ∷ []) y
       one m y k = first-then v m [] y (k .0) (silent _ _ (k .1))
 
       ran-to : (ss as′ : List ℕ) → 4 * t .count ≤ length ss → 4 * t .count ≤ length as′
           → Leads v (readBack t x (writtenServices t x ss) (writtenActions t x as′) (stepsToQuiet t x)) (stateAfter t x (stepsToQuiet t x))
-      ran-to ss as′ a b = rw (read-back t x ss as′ a b) (runs (stepsToQuiet t x) v x i)
+      ran-to ss as′ a b = rw (read-back t x ss as′ a b) (in-a-row (stepsToQuiet t x) v x i)
+
+      by-came : {c : Call} {o : Outcome} → Came t x c o → LeadsBy c o
+      unfolding marksOf
+      by-came (refuses k) = silent v x i
+      by-came (starts {s} l) = silent v _ (h .starts v x s i l)
+      by-came (stops {s} l) = silent v _ (h .stops v x s i l)
+      by-came stops-all = silent v _ (h .stopsAll v x i)
+      by-came (ends {s} {good} l lives) = one (ended s) _ (h .ends v x s good i l)
+      by-came (clocks {n} l m) = silent v _ (h .clocks v x n i l m)
+      by-came acts = one (handed (nextAction t x .action) (deadlineKill t x)) _ (h .acts v x i)
+      by-came tells = silent v x i
+      by-came (runs {ss} {as′} a b) = ran-to ss as′ a b
 
       pub call-leads : (c : Call) → Leads v (marks t x c) (outcome t x c .state)
-      unfolding marks outcome marksOf
-      call-leads (start s) =
-          checked (start s) (formed t x) _ _ λ _. checked (start s) (ltb s (t .count)) _ _ λ l. silent v _ (h .starts v x s i (ltb-true _ _ l))
-      call-leads (stop s) =
-          checked (stop s) (formed t x) _ _ λ _. checked (stop s) (ltb s (t .count)) _ _ λ l. silent v _ (h .stops v x s i (ltb-true _ _ l))
-      call-leads (clock n) =
-          checked (clock n) (formed t x) _ _ λ _. checked (clock n) (leb (x .clock) n) _ _ λ l. checked (clock n) (leb n lastClock) _ _ λ m.
-          silent v _ (h .clocks v x n i (leb-true _ _ l) (leb-true _ _ m))
-      call-leads (end s good) =
-          checked (end s good) (formed t x) _ _ λ _. checked (end s good) (ltb s (t .count)) _ _ λ l. checked (end s good) (recordAt x s .live) _ _ λ _.
-          one (ended s) _ (h .ends v x s good i (ltb-true _ _ l))
-      call-leads stopAll = checked stopAll (formed t x) _ _ λ _. silent v _ (h .stopsAll v x i)
-      call-leads next = checked next (formed t x) _ _ λ _. one (handed (nextAction t x .action) (deadlineKill t x)) _ (h .acts v x i)
-      call-leads query = checked query (formed t x) _ _ λ _. silent v x i
-      call-leads (run ss as′) =
-          checked (run ss as′) (formed t x) _ _ λ _. checked (run ss as′) (leb (4 * t .count) (length ss) && leb (4 * t .count) (length as′)) _ _ λ r.
-          let q = and-true (leb (4 * t .count) (length ss)) _ .0 r in ran-to ss as′ (leb-true _ _ (q .0)) (leb-true _ _ (q .1))
+      unfolding marks
+      call-leads c = by-came (came t x c)
 
     pub story-leads : (cs : List Call) (v : Set) (x : State) → I v x → Leads v (story t x cs) (afterCalls t x cs)
     unfolding story afterCalls

@@ -6,7 +6,7 @@ use lib.ListN.{length}
 use mathlib.Core.Bool.{Bool, _&&_, _||_, false, not, true}
 use mathlib.Core.List.{List}
 use mathlib.Core.Logic.{_↔_}
-use mathlib.Core.Path.{_≡_, refl}
+use mathlib.Core.Path.{_∙_, _≡_, refl, sym}
 use native.Mathlib.Nat.{le-refl, le-trans}
 use native.Mathlib.Omega.{arith}
 use Rattle.base.specs.Folds.{pick}
@@ -95,17 +95,20 @@ pub record Sound (t : Table) (x : State) : Type 0 where
   pub times : (s : ℕ) → s < t .count → Timely (x .clock) (recordAt x s)
   pub shapes : (s : ℕ) → s < t .count → shapedAt t x s ≡ true
 
-pub state-sound : (t : Table) (x : State) → Sized x → stateFormed t x ≡ true → Sound t x
+-- list 24's part on states, at each service
+pub state-parts : (t : Table) (x : State) → stateFormed t x ≡ true
+    → (x .clock ≤ lastClock) × ((s : ℕ) → s < t .count → (timesInRange (x .clock) (recordAt x s) ≡ true) × (shapedAt t x s ≡ true))
 unfolding stateFormed
+state-parts t x f =
+    let h = and-true (leb (x .clock) lastClock) _ .0 f in (
+      leb-true _ _ (h .0),
+      λ s l. and-true (timesInRange (x .clock) (recordAt x s)) _ .0 (every-true (λ i. timesInRange (x .clock) (recordAt x i) && shapedAt t x i) (t .count) .0 (h .1) s l),
+    )
+
+pub state-sound : (t : Table) (x : State) → Sized x → stateFormed t x ≡ true → Sound t x
 state-sound t x z f =
-    let h = and-true (leb (x .clock) lastClock) _ .0 f in
-    let g = every-true (λ s. timesInRange (x .clock) (recordAt x s) && shapedAt t x s) (t .count) .0 (h .1) in
-    record {
-      sized = z;
-      clock = leb-true _ _ (h .0);
-      times = λ s l. timely (x .clock) (recordAt x s) .0 (and-true (timesInRange (x .clock) (recordAt x s)) _ .0 (g s l) .0);
-      shapes = λ s l. and-true (timesInRange (x .clock) (recordAt x s)) _ .0 (g s l) .1;
-    }
+    let h = state-parts t x f in
+    record { sized = z; clock = h .0; times = λ s l. timely (x .clock) (recordAt x s) .0 (h .1 s l .0); shapes = λ s l. h .1 s l .1 }
 
 pub sound-state : (t : Table) (x : State) → Sound t x → stateFormed t x ≡ true
 unfolding stateFormed
@@ -250,13 +253,23 @@ module _ (t : Table) (x : State) (s : ℕ) where
   leaves-shaped Expire o f =
       expire-shaped (settingsAt t s .kind) (recordAt x s .phase) (recordAt x s .live) (recordAt x s .cause) (not (recordAt x s .killed)) o (expire-fits t x s .0 f .which)
 
--- the shapes of all records after a rule
-pub shapes-rule : (t : Table) (x : State) (s : ℕ) (k : Rule) → t .count ≤ maxServices → Sized x → ((i : ℕ) → i < t .count → shapedAt t x i ≡ true)
-    → fits k t x s ≡ true → s < t .count → (i : ℕ) → i < t .count → shapedAt t (withRecord x s (leaves k t x s)) i ≡ true
-unfolding shapedAt
-shapes-rule t x s k few z h f l =
-    with-all x s (leaves k t x s) z (le-trans l few) (t .count)
-    (λ i q. shaped (settingsAt t i .kind) (q .phase) (q .live) (q .cause) ≡ true) (λ i il _. h i il) (unfold shapedAt in leaves-shaped t x s k (h s l) f)
+-- what every stage of the bound needs: no more services than places, and records of list 24's shapes
+pub record AnyStage (t : Table) (x : State) : Type 0 where
+  pub few : t .count ≤ maxServices
+  pub sized : Sized x
+  pub shapes : (s : ℕ) → s < t .count → shapedAt t x s ≡ true
+
+-- a rule keeps it
+pub any-rule : (t : Table) (x : State) (k : Rule) (s : ℕ) → AnyStage t x → s < t .count → fits k t x s ≡ true → AnyStage t (withRecord x s (leaves k t x s))
+any-rule t x k s i l f = record {
+  few = i .few;
+  sized = sized-with x s _ (i .sized);
+  shapes =
+      unfold shapedAt in
+      with-all x s (leaves k t x s) (i .sized) (le-trans l (i .few)) (t .count)
+      (λ j q. shaped (settingsAt t j .kind) (q .phase) (q .live) (q .cause) ≡ true) (λ j jl _. unfold shapedAt in i .shapes j jl)
+      (leaves-shaped t x s k (i .shapes s l) f);
+}
 
 -- ---- each change of the state
 
@@ -394,6 +407,10 @@ module _ (t : Table) (ts : TableSound t) where
 pub formed-parts : (t : Table) (x : State) → formed t x ≡ true → (tableFormed t ≡ true) × (stateFormed t x ≡ true)
 unfolding formed
 formed-parts t x f = and-true (tableFormed t) _ .0 f
+
+-- q is what the code found of the list
+pub formed-few : (t : Table) (x : State) (q : Bool) → q ≡ formed t x → q ≡ true → t .count ≤ maxServices
+formed-few t x q e h = table-sound t .0 (formed-parts t x (sym e ∙ h) .0) .few
 
 pub formed-sound : (t : Table) (x : State) → Sized x → formed t x ≡ true → TableSound t × Sound t x
 formed-sound t x z f = let h = formed-parts t x f in (table-sound t .0 (h .0), state-sound t x z (h .1))

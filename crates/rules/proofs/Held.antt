@@ -30,18 +30,18 @@ use Rattle.rules.proofs.Formed.{Sound, fresh-sound, sound-clock, sound-
 use Rattle.rules.proofs.Links.{TableSound, hard-strong}
 use Rattle.rules.proofs.Shapes.{expire-active, expire-not-up, release-active, release-up, stop-active, stop-up, up-active}
 
-abbrev isActive : Record → Bool
-isActive r = active (r .phase)
+abbrev activeAt : Record → Bool
+activeAt r = active (r .phase)
 
-abbrev isRunning : Record → Bool
-isRunning r = isUp (r .phase)
+abbrev upAt : Record → Bool
+upAt r = isUp (r .phase)
 
 abbrev pub Held : Table → State → Type 0
-Held t x = Along isActive isRunning t x
+Held t x = Along activeAt upAt t x
 
 -- no service that hard-depends on s is starting, up or ending
 abbrev pub Unblocked : Table → State → ℕ → Type 0
-Unblocked t x s = Free isActive isRunning t x s
+Unblocked t x s = Free activeAt upAt t x s
 
 pub unblocked : (t : Table) (x : State) (s : ℕ) → (blocked t x s ≡ false) ↔ Unblocked t x s
 unfolding blocked
@@ -55,7 +55,7 @@ module _ (t : Table) (x : State) (s : ℕ) (z : Sized x) (l : s < maxServices) (
   pub held-with : (r : Record)
       → (active (r .phase) ≡ true → (active (recordAt x s .phase) ≡ true) ⊎ ((d : ℕ) → d < t .count → hard t s d ≡ true → isUp (recordAt x d .phase) ≡ true))
       → (isUp (recordAt x s .phase) ≡ true → (isUp (r .phase) ≡ true) ⊎ Unblocked t x s) → Held t (withRecord x s r)
-  held-with r comes goes = along-with isActive isRunning t x s r z l inv (λ q. up-active (q .phase)) comes goes
+  held-with r comes goes = along-with activeAt upAt t x s r z l inv (λ q. up-active (q .phase)) comes goes
 
   pub held-rule : (k : Rule) → fits k t x s ≡ true → Held t (withRecord x s (leaves k t x s))
   unfolding leaves

@@ -1,5 +1,5 @@
 -- The last stage comes to rest: at most one action for each service.
-use Prim.Native.Nat.{_+_, _<_, _≤_, ℕ}
+use Prim.Native.Nat.{_+_, _<_, ℕ}
 use borrow.Author.Tests.{eqb-false, lt-leb}
 use lib.Dec.{eqb, lit<}
 use mathlib.Core.Bool.{Bool, _&&_, _||_, false, not, true}
@@ -10,7 +10,7 @@ use native.Mathlib.Omega.{arith}
 use Rattle.base.specs.Folds.{implies, pick}
 use Rattle.base.proofs.Tests.{and-true, either, imp-true, no-ft, not-both, not-true}
 use Rattle.service.specs.Limits.{maxServices}
-use Rattle.service.specs.Records.{isEnding, isNone, isStarting, isUp, isWaiting, recordAt, withRecord}
+use Rattle.service.specs.Records.{active, isDown, isEnding, isNone, isStarting, isUp, isWaiting, recordAt, withRecord}
 use Rattle.service.specs.Settings.{isScripted, settingsAt}
 use Rattle.service.specs.declared.Deadline.{Deadline}
 use Rattle.service.specs.declared.Deadline.the-variants.{At, None as NoDeadline}
@@ -23,7 +23,6 @@ use Rattle.service.specs.declared.State.{State}
 use Rattle.service.specs.declared.Table.{Table}
 use Rattle.service.proofs.Finite.{bools, finite, given, kinds, phases}
 use Rattle.service.proofs.Named.{is-up, is-waiting}
-use Rattle.service.proofs.States.{Sized, sized-with}
 use Rattle.rules.specs.Dependencies.{serving}
 use Rattle.rules.specs.Rules.{begunDeadline, begunPhase, deadlineIn, due, expired, fits, leaves, running}
 use Rattle.rules.specs.WellFormed.{shapedAt}
@@ -31,7 +30,7 @@ use Rattle.rules.specs.declared.Rule.{Rule}
 use Rattle.rules.specs.declared.Rule.the-variants.{Abandon, Begin, End, Expire, Lose, Release, Settle, Wake}
 use Rattle.rules.proofs.Along.{along-with}
 use Rattle.rules.proofs.Fitting.{begin-fits, end-fits, expire-fits}
-use Rattle.rules.proofs.Formed.{leaves-shaped, shapes-rule}
+use Rattle.rules.proofs.Formed.{AnyStage, any-rule, leaves-shaped}
 use Rattle.rules.proofs.LastStage.{Change, before-with, tidy}
 use Rattle.rules.proofs.Links.{hard-strong}
 use Rattle.rules.proofs.Next.{Before, Fires, next-either, place}
@@ -89,21 +88,19 @@ not-due now wait = go (eqb wait 0) refl
     go false q = lt-leb (now + wait) now (let ne : (wait ≡ 0 → ⊥) = eqb-false wait 0 q in omega arith)
 
 pub record LastStage (t : Table) (x : State) : Type 0 where
-  pub few : t .count ≤ maxServices
-  pub sized : Sized x
-  pub shapes : (s : ℕ) → s < t .count → shapedAt t x s ≡ true
+  pub any : AnyStage t x
   pub before : Before t x 5
 
 module _ (t : Table) (x : State) (s : ℕ) (i : LastStage t x) (sl : s < t .count) where
   room : s < maxServices
-  room = le-trans sl (i .few)
+  room = le-trans sl (i .any .few)
 
   -- rules 6, 7 and 8 change no more than this stage allows
-  begin-change : fits Begin t x s ≡ true → Change t x s (leaves Begin t x s) (i .sized) room
+  begin-change : fits Begin t x s ≡ true → Change t x s (leaves Begin t x s) (i .any .sized) room
   unfolding leaves shapedAt
   begin-change f =
       let m = begin-fits t x s .0 f in
-      let nil : isNone (recordAt x s .cause) ≡ true = waiting-uncaused (settingsAt t s .kind) (recordAt x s .phase) (recordAt x s .live) (recordAt x s .cause) (i .shapes s sl) (m .waits) in
+      let nil : isNone (recordAt x s .cause) ≡ true = waiting-uncaused (settingsAt t s .kind) (recordAt x s .phase) (recordAt x s .live) (recordAt x s .cause) (i .any .shapes s sl) (m .waits) in
       record {
         woken = not-true _ .0 (begin-not-down (settingsAt t s .kind));
         busy = not-true _ .0 (begin-not-waiting (settingsAt t s .kind));
@@ -111,67 +108,48 @@ module _ (t : Table) (x : State) (s : ℕ) (i : LastStage t x) (sl : s < t .coun
         wants = refl;
         unclosed = λ _. nil;
         clean =
-            along-with running serving t x s _ (i .sized) room (tidy t x (i .before Lose (lit< tt)))
+            along-with running serving t x s _ (i .any .sized) room (tidy t x (i .before Lose (lit< tt)))
             (λ r. serving-running (r .phase) (isNone (r .cause)))
             (λ _. inr (λ d dl h. and-true _ _ .1 (m .strongs d dl (hard-strong t s d h))))
             (λ u. no-ft (rw (is-waiting (recordAt x s .phase) (m .waits)) at u));
         was = λ _. (m .waits, nil);
       }
 
-  end-change : fits End t x s ≡ true → Change t x s (leaves End t x s) (i .sized) room
+  -- a service that comes to be ending, with a cause, and that was not up with none
+  ending-change : (r : Record) → r .phase ≡ Ending → isNone (r .cause) ≡ false → r .wanted ≡ recordAt x s .wanted → serving (recordAt x s) ≡ false
+      → Change t x s r (i .any .sized) room
+  ending-change r p c w u = record {
+    woken = ap isDown p;
+    busy = ap isWaiting p;
+    acts = λ _. ap active p;
+    wants = w;
+    unclosed = λ e. no-ft (rw p at e);
+    clean =
+        along-with running serving t x s r (i .any .sized) room (tidy t x (i .before Lose (lit< tt)))
+        (λ q. serving-running (q .phase) (isNone (q .cause)))
+        (λ a. no-ft (rw p at a))
+        (λ e. absurd (not-both e u));
+    was = λ n. absurd (not-both n c);
+  }
+
+  end-change : fits End t x s ≡ true → Change t x s (leaves End t x s) (i .any .sized) room
   unfolding leaves
   end-change f =
       let m = end-fits t x s .0 f in
-      record {
-        woken = refl;
-        busy = refl;
-        acts = λ _. refl;
-        wants = refl;
-        unclosed = λ u. no-ft u;
-        clean =
-            along-with running serving t x s _ (i .sized) room (tidy t x (i .before Lose (lit< tt)))
-            (λ r. serving-running (r .phase) (isNone (r .cause)))
-            (λ a. no-ft a)
-            (λ u. absurd (not-both (and-true (isUp (recordAt x s .phase)) _ .0 u .1) (m .caused)));
-        was = λ n. absurd (not-both n (m .caused));
-      }
+      ending-change _ refl (m .caused) refl (rw (is-up (recordAt x s .phase) (m .up), m .caused))
 
-  expire-change : fits Expire t x s ≡ true → Change t x s (leaves Expire t x s) (i .sized) room
+  expire-change : fits Expire t x s ≡ true → Change t x s (leaves Expire t x s) (i .any .sized) room
   unfolding leaves
   expire-change f =
       let m = expire-fits t x s .0 f in
-      record {
-        woken = refl;
-        busy = refl;
-        acts = λ _. refl;
-        wants = refl;
-        unclosed = λ u. no-ft u;
-        clean =
-            along-with running serving t x s _ (i .sized) room (tidy t x (i .before Lose (lit< tt)))
-            (λ r. serving-running (r .phase) (isNone (r .cause)))
-            (λ a. no-ft a)
-            (λ u.
-            absurd
-            (not-both
-            (and-true (isUp (recordAt x s .phase)) (isNone (recordAt x s .cause)) .0 u .0)
-            (not-true _ .0 (expire-not-up (recordAt x s .phase) (not (recordAt x s .killed)) (m .which)))));
-        was =
-            λ n.
-            absurd
-            (not-both
-            n
-            (not-true _ .0
-            (ending-caused (settingsAt t s .kind) Ending (leaves Expire t x s .live) (leaves Expire t x s .cause) (leaves-shaped t x s Expire (i .shapes s sl) f) refl)));
-      }
+      ending-change _ refl
+      (not-true _ .0 (ending-caused (settingsAt t s .kind) Ending (leaves Expire t x s .live) (leaves Expire t x s .cause) (leaves-shaped t x s Expire (i .any .shapes s sl) f) refl))
+      refl
+      (rw (not-true (isUp (recordAt x s .phase)) .0 (expire-not-up (recordAt x s .phase) (not (recordAt x s .killed)) (m .which))))
 
   -- the state after is in the stage again
-  kept : (k : Rule) → fits k t x s ≡ true → Change t x s (leaves k t x s) (i .sized) room → LastStage t (withRecord x s (leaves k t x s))
-  kept k f c = record {
-    few = i .few;
-    sized = sized-with x s _ (i .sized);
-    shapes = shapes-rule t x s k (i .few) (i .sized) (i .shapes) f sl;
-    before = before-with t x s (leaves k t x s) (i .sized) room c (i .before);
-  }
+  kept : (k : Rule) → fits k t x s ≡ true → Change t x s (leaves k t x s) (i .any .sized) room → LastStage t (withRecord x s (leaves k t x s))
+  kept k f c = record { any = any-rule t x k s (i .any) sl f; before = before-with t x s (leaves k t x s) (i .any .sized) room c (i .before) }
 
   -- and the record is lighter
   begin-falls : fits Begin t x s ≡ true → weighLast (x .clock) (leaves Begin t x s) < weighLast (x .clock) (recordAt x s)
@@ -188,7 +166,7 @@ module _ (t : Table) (x : State) (s : ℕ) (i : LastStage t x) (sl : s < t .coun
       (isNone (recordAt x s .cause))
       (due (x .clock) (leaves Begin t x s .deadline))
       (recordAt x s .killed)
-      (waiting-uncaused (settingsAt t s .kind) (recordAt x s .phase) (recordAt x s .live) (recordAt x s .cause) (i .shapes s sl) (m .waits))
+      (waiting-uncaused (settingsAt t s .kind) (recordAt x s .phase) (recordAt x s .live) (recordAt x s .cause) (i .any .shapes s sl) (m .waits))
       (imp-true _ _ .1
       (λ k.
       not-true _ .1
@@ -231,7 +209,7 @@ last-turn t x i = either (next-either t x) (stays-still t (LastStage t) (total w
     late : (k : Rule) (s : ℕ) → Fires t x k s → LastStage t (withRecord x s (leaves k t x s)) → weighLast (x .clock) (leaves k t x s) < weighLast (x .clock) (recordAt x s)
         → Turn t (LastStage t) (total weighLast t) x
     late k s f j l =
-        fired-lighter t (LastStage t) (total weighLast t) x k s f j (total-with weighLast t x s (leaves k t x s) (i .sized) (i .few) (f .lowest .bound) l)
+        fired-lighter t (LastStage t) (total weighLast t) x k s f j (total-with weighLast t x s (leaves k t x s) (i .any .sized) (i .any .few) (f .lowest .bound) l)
 
     go : (k : Rule) (s : ℕ) → Fires t x k s → Turn t (LastStage t) (total weighLast t) x
     go Lose s f = early Lose s f (lit< tt)

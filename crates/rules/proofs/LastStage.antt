@@ -105,6 +105,30 @@ module _ (t : Table) (x : State) (s : ℕ) (r : Record) (z : Sized x) (l : s < m
     pub clean : Tidy t (withRecord x s r)
     pub was : isNone (r .cause) ≡ true → (isWaiting (recordAt x s .phase) ≡ true) × (isNone (recordAt x s .cause) ≡ true)
 
+  -- rules 2 and 4 fitted i before the change, where they fit it after: its record is as it was, and what it depends on, or who calls it, is not s
+  module _ (i : ℕ) (w : recordAt (withRecord x s r) i ≡ recordAt x i) where
+    pub abandon-back : (m : Abandoning t (withRecord x s r) i) → m .stuck .0 ≢ s → fits Abandon t x i ≡ true
+    abandon-back m apart =
+        let k = m .stuck in
+        abandon-fits t x i .1
+        record { waits = rw w at (m .waits); stuck = (k .0, k .1, (k .2 .0, (rw (with-other x s r z l (k .0) apart) at (k .2 .1 .0), rw (with-other x s r z l (k .0) apart) at (k .2 .1 .1)))) }
+
+    pub wake-back : Waking t (withRecord x s r) i → isWaiting (r .phase) ≡ false → fits Wake t x i ≡ true
+    wake-back m busy =
+        wake-fits t x i .1
+        record {
+          down = rw w at (m .down);
+          aside = rw w at (m .aside);
+          called =
+              called-by t x i .1
+              (either
+              (called-by t (withRecord x s r) i .0 (m .called))
+              (λ x′. inl (rw w at x′))
+              (λ k.
+              let apart : (k .0 ≢ s) = λ q′. not-both (rw (q′, with-same x s r z l) at (k .2 .1)) busy in
+              inr (k .0, k .1, (k .2 .0, rw (with-other x s r z l (k .0) apart) at (k .2 .1)))));
+        }
+
   module _ (c : Change) (b : Before t x 5) where
     no-abandon : Nowhere t (withRecord x s r) Abandon
     no-abandon i il = refute _ (λ f. go (abandon-fits t (withRecord x s r) i .0 f) (with-at x s r z l i))
@@ -112,13 +136,8 @@ module _ (t : Table) (x : State) (s : ℕ) (r : Record) (z : Sized x) (l : s < m
         go : Abandoning t (withRecord x s r) i → With x s r i → ⊥
         go m (same q w) = not-both (rw w at (m .waits)) (c .busy)
         go m (other q w) =
-            let k = m .stuck in
-            let d : ℕ = k .0 in
-            let stuck : (d ≢ s) =
-            λ q′. not-both (rw (q′, with-same x s r z l) at (k .2 .1 .0)) (c .woken) in
             not-both
-            (abandon-fits t x i .1
-            record { waits = rw w at (m .waits); stuck = (d, k .1, (k .2 .0, (rw (with-other x s r z l d stuck) at (k .2 .1 .0), rw (with-other x s r z l d stuck) at (k .2 .1 .1)))) })
+            (abandon-back i w m (λ q′. not-both (rw (q′, with-same x s r z l) at (m .stuck .2 .1 .0)) (c .woken)))
             (b Abandon (lit< tt) i il)
 
     no-settle : Nowhere t (withRecord x s r) Settle
@@ -142,22 +161,7 @@ module _ (t : Table) (x : State) (s : ℕ) (r : Record) (z : Sized x) (l : s < m
       where
         go : Waking t (withRecord x s r) i → With x s r i → ⊥
         go m (same q w) = not-both (rw w at (m .down)) (c .woken)
-        go m (other q w) =
-            not-both
-            (wake-fits t x i .1
-            record {
-              down = rw w at (m .down);
-              aside = rw w at (m .aside);
-              called =
-                  called-by t x i .1
-                  (either
-                  (called-by t (withRecord x s r) i .0 (m .called))
-                  (λ x′. inl (rw w at x′))
-                  (λ k.
-                  let apart : (k .0 ≢ s) = λ q′. not-both (rw (q′, with-same x s r z l) at (k .2 .1)) (c .busy) in
-                  inr (k .0, k .1, (k .2 .0, rw (with-other x s r z l (k .0) apart) at (k .2 .1)))));
-            })
-            (b Wake (lit< tt) i il)
+        go m (other q w) = not-both (wake-back i w m (c .busy)) (b Wake (lit< tt) i il)
 
     no-release : Nowhere t (withRecord x s r) Release
     no-release i il = refute _ (λ f. go (release-fits t (withRecord x s r) i .0 f) (with-at x s r z l i))

@@ -1,9 +1,11 @@
+-- The laws, each file after those that it cites.
 pub mod Shapes
 pub mod Links
 pub mod Fitting
 pub mod Along
 pub mod Next
 pub mod Each
+pub mod Came
 pub mod Keeps
 pub mod Formed
 pub mod Runs
@@ -21,7 +23,7 @@ pub mod StageWeights
 pub mod Stages
 pub mod Resting
 pub mod Timed
-pub mod Doom
+pub mod Halting
 pub mod SentKill
 pub mod Rounds
 pub mod Demand

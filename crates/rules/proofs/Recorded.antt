@@ -5,7 +5,7 @@ use borrow.Author.Tests.{eq-eqb, ne-eqb}
 use lib.Dec.{lit<}
 use mathlib.Core.Bool.{Bool, false, not, true}
 use mathlib.Core.Logic.{_≢_}
-use mathlib.Core.Path.{_∙_, _≡_, refl}
+use mathlib.Core.Path.{_∙_, _≡_, refl, sym}
 use native.Mathlib.Nat.{le-trans}
 use Rattle.base.specs.Folds.{pick}
 use Rattle.base.specs.Links.{Path, link, on}
@@ -13,7 +13,7 @@ use Rattle.base.proofs.Tests.{either, no-ft, not-both, not-true, refute}
 use Rattle.service.specs.Records.{active, isStarting, isUp, recordAt, withRecord}
 use Rattle.service.specs.Settings.{isScripted, settingsAt}
 use Rattle.service.specs.declared.Action.{Action}
-use Rattle.service.specs.declared.Action.the-variants.{Signal}
+use Rattle.service.specs.declared.Action.the-variants.{Launch, Moved, Quiet, Signal, StopCommand}
 use Rattle.service.specs.declared.Kind.{Kind}
 use Rattle.service.specs.declared.Kind.the-variants.{Internal, Process, Scripted}
 use Rattle.service.specs.declared.Signal.{Signal as SignalName}
@@ -58,11 +58,6 @@ begun-in Process v s b l h = with-in s v
 begun-in Scripted v s b l h = with-in s v
 begun-in Internal v s b l h = h
 
-begun-others : (k : Kind) (v : Set) (s e : ℕ) (b : Bool) → e ≢ s → recorded (handed (begunAction k s) b) v e ≡ v e
-begun-others Process v s e b q = with-others s e v q
-begun-others Scripted v s e b q = with-others s e v q
-begun-others Internal v s e b q = refl
-
 begun-on : (k : Kind) (s i : ℕ) → ActsOn (begunAction k s) i → s ≡ i
 begun-on Process s i q = q
 begun-on Scripted s i q = q
@@ -94,11 +89,6 @@ end-in Process g v s b h = rw (term-leaves g s b v) (h refl)
 end-in Scripted g v s b h = with-in s v
 end-in Internal g v s b h = h refl
 
-end-others : (k : Kind) (g : SignalName) (v : Set) (s e : ℕ) (b : Bool) → e ≢ s → recorded (handed (endAction k g s) b) v e ≡ v e
-end-others Process g v s e b q = rw (term-leaves g s b v)
-end-others Scripted g v s e b q = with-others s e v q
-end-others Internal g v s e b q = refl
-
 end-on : (k : Kind) (g : SignalName) (s i : ℕ) → ActsOn (endAction k g s) i → s ≡ i
 end-on Process g s i q = term-on g s i q
 end-on Scripted g s i q = q
@@ -111,6 +101,26 @@ expired-leaves false s b v = refl
 expired-on : (a : Bool) (s i : ℕ) → ActsOn (pick a (Signal s Int) (Signal s Kill)) i → s ≡ i
 expired-on true s i q = q
 expired-on false s i q = q
+
+-- what a rule hands out for s acts on s, or on none
+pub hands-on : (k : Rule) (t : Table) (x : State) (s i : ℕ) → ActsOn (hands k t x s) i → s ≡ i
+unfolding hands
+hands-on Lose t x s i q = absurd q
+hands-on Abandon t x s i q = absurd q
+hands-on Settle t x s i q = absurd q
+hands-on Wake t x s i q = absurd q
+hands-on Release t x s i q = absurd q
+hands-on Begin t x s i q = begun-on (settingsAt t s .kind) s i q
+hands-on End t x s i q = end-on (settingsAt t s .kind) (settingsAt t s .signal) s i q
+hands-on Expire t x s i q = expired-on (isStarting (recordAt x s .phase)) s i q
+
+-- an action leaves those in the record whom it does not act on
+recorded-others : (a : Action) (b : Bool) (v : Set) (e : ℕ) → (ActsOn a e → ⊥) → recorded (handed a b) v e ≡ v e
+recorded-others Quiet b v e n = refl
+recorded-others (Moved s) b v e n = refl
+recorded-others (Launch s) b v e n = with-others s e v (λ q. n (sym q))
+recorded-others (StopCommand s) b v e n = with-others s e v (λ q. n (sym q))
+recorded-others (Signal s g) b v e n = refl
 
 -- ---- along a chain of hard dependencies
 
@@ -151,16 +161,16 @@ module _ (t : Table) (ts : TableSound t) (v : Set) (x : State) (g : Good t ts v 
     rule-clear Begin b f =
         let m = begin-fits t x s .0 f in
         clear-of (λ e el p a. no-ft (rw (is-waiting (recordAt x s .phase) (m .waits)) at (chain t ts x (g .kept .held) el p a .0)))
-        (hands Begin t x s) b (begun-on (settingsAt t s .kind) s)
+        (hands Begin t x s) b (hands-on Begin t x s)
     rule-clear End b f =
         let m = end-fits t x s .0 f in
         clear-of (λ e el p a. let c = chain t ts x (g .kept .held) el p a .1 in unblocked t x s .0 (m .unblocked) (c .0) (c .1) (c .2) (c .3))
-        (hands End t x s) b (end-on (settingsAt t s .kind) (settingsAt t s .signal) s)
+        (hands End t x s) b (hands-on End t x s)
     rule-clear Expire b f =
         let m = expire-fits t x s .0 f in
         clear-of
         (λ e el p a. not-both (chain t ts x (g .kept .held) el p a .0) (not-true _ .0 (expire-not-up (recordAt x s .phase) (not (recordAt x s .killed)) (m .which))))
-        (hands Expire t x s) b (expired-on (isStarting (recordAt x s .phase)) s)
+        (hands Expire t x s) b (hands-on Expire t x s)
 
     -- what rule 7 ends is not what rule 3 settles, which comes first
     busy : fits End t x s ≡ true → Before t x (place End) → nothingToEnd (settingsAt t s .kind) (settingsAt t s .«has_stop») (recordAt x s .live) ≡ false
@@ -187,24 +197,13 @@ module _ (t : Table) (ts : TableSound t) (v : Set) (x : State) (g : Good t ts v 
         (g .kept .sound .shapes s l) (m .up) (not-true _ .1 (busy f n)) (not-true _ .1 q))
     rule-same Expire b f n = rw (expired-leaves (isStarting (recordAt x s .phase)) s b v) (g .same s l)
 
-    rule-others : (k : Rule) (b : Bool) (e : ℕ) → e ≢ s → recorded (handed (hands k t x s) b) v e ≡ v e
-    unfolding hands
-    rule-others Lose b e q = refl
-    rule-others Abandon b e q = refl
-    rule-others Settle b e q = refl
-    rule-others Wake b e q = refl
-    rule-others Release b e q = refl
-    rule-others Begin b e q = begun-others (settingsAt t s .kind) v s e b q
-    rule-others End b e q = end-others (settingsAt t s .kind) (settingsAt t s .signal) v s e b q
-    rule-others Expire b e q = rw (expired-leaves (isStarting (recordAt x s .phase)) s b v)
-
     pub rule-good : (k : Rule) (b : Bool) → fits k t x s ≡ true → Before t x (place k)
         → Good t ts (recorded (handed (hands k t x s) b) v) (withRecord x s (leaves k t x s))
     rule-good k b f n = record {
       kept = kept-rule t ts x k s (g .kept) l f;
       same =
           with-all x s (leaves k t x s) (g .kept .sound .sized) (le-trans l (ts .few)) (t .count)
-          (λ e r. recorded (handed (hands k t x s) b) v e ≡ r .live) (λ e el q. rule-others k b e q ∙ g .same e el) (rule-same k b f n);
+          (λ e r. recorded (handed (hands k t x s) b) v e ≡ r .live) (λ e el q. recorded-others (hands k t x s) b v e (λ a. q (sym (hands-on k t x s e a))) ∙ g .same e el) (rule-same k b f n);
     }
 
   -- the next action is clear, and leaves a good state

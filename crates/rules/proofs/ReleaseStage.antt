@@ -1,7 +1,7 @@
 -- The stage of the services that nobody needs: rules 1, 2 and 4 fit nowhere, and rule 3 only such a service.
-use Prim.Native.Nat.{_<_, _≤_, ℕ}
+use Prim.Native.Nat.{_<_, ℕ}
 use mathlib.Core.Bool.{false, true}
-use mathlib.Core.Logic.{_≢_, inl, inr}
+use mathlib.Core.Logic.{_≢_, inr}
 use mathlib.Core.Path.{_≡_}
 use native.Mathlib.Nat.{le-trans}
 use Rattle.base.proofs.Tests.{and-true, either, no-ft, not-both, refute}
@@ -11,15 +11,15 @@ use Rattle.service.specs.declared.Record.{Record}
 use Rattle.service.specs.declared.State.{State}
 use Rattle.service.specs.declared.Table.{Table}
 use Rattle.service.proofs.Named.{is-down}
-use Rattle.service.proofs.States.{Sized, With, other, same, sized-with, with-at, with-other, with-same}
+use Rattle.service.proofs.States.{Sized, With, other, same, with-at, with-other, with-same}
 use Rattle.rules.specs.Dependencies.{hard, serving}
 use Rattle.rules.specs.Rules.{fits, running}
-use Rattle.rules.specs.WellFormed.{shapedAt}
 use Rattle.rules.specs.declared.Rule.the-variants.{Abandon, Settle, Wake}
 use Rattle.rules.proofs.Along.{along-with}
 use Rattle.rules.proofs.Fitting.{Abandoning, Settling, Waking, abandon-fits, settle-fits, wake-fits}
+use Rattle.rules.proofs.Formed.{AnyStage}
 use Rattle.rules.proofs.Held.{Unblocked, unblocked}
-use Rattle.rules.proofs.LastStage.{Idle, Tidy, called-by}
+use Rattle.rules.proofs.LastStage.{Idle, Tidy, abandon-back, called-by, wake-back}
 use Rattle.rules.proofs.Links.{hard-depends, strong-depends}
 use Rattle.rules.proofs.Next.{Nowhere}
 use Rattle.rules.proofs.Shapes.{serving-running, up-active}
@@ -28,9 +28,7 @@ abbrev Propped : Table → State → ℕ → Type 0
 Propped t x s = (d : ℕ) → d < t .count → hard t s d ≡ true → serving (recordAt x d) ≡ true
 
 pub record ReleaseStage (t : Table) (x : State) : Type 0 where
-  pub few : t .count ≤ maxServices
-  pub sized : Sized x
-  pub shapes : (s : ℕ) → s < t .count → shapedAt t x s ≡ true
+  pub any : AnyStage t x
   pub clean : Tidy t x
   pub no-abandon : Nowhere t x Abandon
   pub no-wake : Nowhere t x Wake
@@ -49,10 +47,10 @@ module _ (t : Table) (x : State) (s : ℕ) (r : Record) (i : ReleaseStage t x) (
 
   module _ (f : Fall) where
     z : Sized x
-    z = i .sized
+    z = i .any .sized
 
     l : s < maxServices
-    l = le-trans sl (i .few)
+    l = le-trans sl (i .any .few)
 
     clean′ : Tidy t (withRecord x s r)
     clean′ =
@@ -65,13 +63,10 @@ module _ (t : Table) (x : State) (s : ℕ) (r : Record) (i : ReleaseStage t x) (
         go : Abandoning t (withRecord x s r) j → With x s r j → ⊥
         go m (same q w) = not-both (rw w at (m .waits)) (f .busy)
         go m (other q w) =
-            let k = m .stuck in
             let waits : isWaiting (recordAt x j .phase) ≡ true = rw w at (m .waits) in
-            let apart : (k .0 ≢ s) =
-            λ q′. no-ft (rw (is-down (recordAt x j .phase) (f .lone .alone j jl (strong-depends t j s (rw q′ at (k .2 .0))))) at waits) in
             not-both
-            (abandon-fits t x j .1
-            record { waits = waits; stuck = (k .0, k .1, (k .2 .0, (rw (with-other x s r z l (k .0) apart) at (k .2 .1 .0), rw (with-other x s r z l (k .0) apart) at (k .2 .1 .1)))) })
+            (abandon-back t x s r z l j w m
+            (λ q′. no-ft (rw (is-down (recordAt x j .phase) (f .lone .alone j jl (strong-depends t j s (rw q′ at (m .stuck .2 .0))))) at waits)))
             (i .no-abandon j jl)
 
     no-wake′ : Nowhere t (withRecord x s r) Wake
@@ -85,22 +80,7 @@ module _ (t : Table) (x : State) (s : ℕ) (r : Record) (i : ReleaseStage t x) (
             (λ k.
             let apart : (k .0 ≢ s) = λ q′. not-both (rw (q′, with-same x s r z l) at (k .2 .1)) (f .busy) in
             no-ft (rw (is-down (recordAt x (k .0) .phase) (f .lone .alone (k .0) (k .1) (rw q at (k .2 .0)))) at (rw (with-other x s r z l (k .0) apart) at (k .2 .1))))
-        go m (other q w) =
-            not-both
-            (wake-fits t x j .1
-            record {
-              down = rw w at (m .down);
-              aside = rw w at (m .aside);
-              called =
-                  called-by t x j .1
-                  (either
-                  (called-by t (withRecord x s r) j .0 (m .called))
-                  (λ y. inl (rw w at y))
-                  (λ k.
-                  let apart : (k .0 ≢ s) = λ q′. not-both (rw (q′, with-same x s r z l) at (k .2 .1)) (f .busy) in
-                  inr (k .0, k .1, (k .2 .0, rw (with-other x s r z l (k .0) apart) at (k .2 .1)))));
-            })
-            (i .no-wake j jl)
+        go m (other q w) = not-both (wake-back t x s r z l j w m (f .busy)) (i .no-wake j jl)
 
     -- what was down is down, and what was firm is firm, since s is neither
     down-on : (e : ℕ) → isDown (recordAt x e .phase) ≡ true → isDown (recordAt (withRecord x s r) e .phase) ≡ true
@@ -135,5 +115,5 @@ module _ (t : Table) (x : State) (s : ℕ) (r : Record) (i : ReleaseStage t x) (
                   rw (with-other x s r z l d apart) (k .1 d dl h),
             )
 
-    pub fall : ((j : ℕ) → j < t .count → shapedAt t (withRecord x s r) j ≡ true) → ReleaseStage t (withRecord x s r)
-    fall shapes = record { few = i .few; sized = sized-with x s r z; shapes = shapes; clean = clean′; no-abandon = no-abandon′; no-wake = no-wake′; settles = settles′ }
+    pub fall : AnyStage t (withRecord x s r) → ReleaseStage t (withRecord x s r)
+    fall any = record { any = any; clean = clean′; no-abandon = no-abandon′; no-wake = no-wake′; settles = settles′ }

@@ -6,9 +6,8 @@ use native.Mathlib.Omega.{arith}
 use Rattle.service.specs.Records.{withRecord}
 use Rattle.service.specs.declared.Action.the-variants.{Quiet}
 use Rattle.service.specs.declared.State.{State}
-use Rattle.service.specs.declared.Step.{Step}
 use Rattle.service.specs.declared.Table.{Table}
-use Rattle.rules.specs.Rules.{act, leaves, nextAction}
+use Rattle.rules.specs.Rules.{Step, act, leaves, nextAction}
 use Rattle.rules.specs.declared.Rule.{Rule}
 use Rattle.rules.proofs.Next.{Fires, Stays}
 

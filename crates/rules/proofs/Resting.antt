@@ -1,16 +1,16 @@
 -- The second half of demand 3, the bound: along any calls with no accepted event among them at most 4n actions come, and
 -- quiet comes.
 use Prim.Native.Nat.{_*_, _+_, _<_, _≤_, suc, zero, ℕ}
-use borrow.Author.Tests.{leb-true}
-use lib.Dec.{leb, lit≤}
+use lib.Dec.{lit≤}
 use lib.ListN.{length}
 use mathlib.Core.Bool.{Bool, _&&_, false, not, true}
 use mathlib.Core.List.{List, [], _++_, _∷_}
 use mathlib.Core.Path.{_∙_, _≡_, ap, refl, sym}
-use native.Mathlib.Nat.{le-refl}
+use native.Mathlib.Nat.{eq-or-lt-of-le, le-refl}
 use native.Mathlib.Omega.{arith}
 use Rattle.base.specs.Folds.{listed, pick}
-use Rattle.base.proofs.Tests.{and-true, either, not-both, not-false, not-true}
+use Rattle.base.proofs.Below.{Sought, found, nowhere, sought}
+use Rattle.base.proofs.Tests.{and-true, either, no-tf, not-both, not-true}
 use Rattle.service.specs.Numbers.{isQuiet}
 use Rattle.service.specs.Records.{freshState, isStarting, recordAt}
 use Rattle.service.specs.Settings.{settingsAt}
@@ -22,17 +22,17 @@ use Rattle.service.specs.declared.Signal.{Signal as SignalName}
 use Rattle.service.specs.declared.Signal.the-variants.{Hup, Int, Kill, None as NoSignal, Quit, Term, Usr1, Usr2}
 use Rattle.service.specs.declared.State.{State}
 use Rattle.service.specs.declared.Table.{Table}
-use Rattle.rules.specs.Calls.{Call, Outcome, afterCalls, check, clock, end, next, outcome, query, run, start, stop, stopAll}
-use Rattle.rules.specs.Demand.{Mark, Rests, RestsEverywhere, accepted, actionsIn, deadlineKill, eventless, handed, isAction, isEvent, marks, marksOf, readBack, story}
+use Rattle.rules.specs.Calls.{Call, Outcome, afterCalls, outcome}
+use Rattle.rules.specs.Demand.{Mark, Rests, RestsEverywhere, accepted, actionsIn, deadlineKill, eventless, handed, isAction, isEvent, isRefused, marks, marksOf, readBack, story}
 use Rattle.rules.specs.Rules.{act, begunAction, endAction, hands, nextAction, termAction}
 use Rattle.rules.specs.Runs.{actionAfter, stateAfter, stepsToQuiet, writtenActions, writtenServices}
-use Rattle.rules.specs.WellFormed.{formed, tableFormed}
+use Rattle.rules.specs.WellFormed.{tableFormed}
 use Rattle.rules.specs.declared.Rule.{Rule}
 use Rattle.rules.specs.declared.Rule.the-variants.{Abandon, Begin, End, Expire, Lose, Release, Settle, Wake}
+use Rattle.rules.proofs.Came.{Came, acts as came-acts, came, clocks, ends, refuses, runs, starts, stops, stops-all, tells}
 use Rattle.rules.proofs.Formed.{always-formed, formed-sound, sound-calls}
 use Rattle.rules.proofs.Links.{table-sound}
 use Rattle.rules.proofs.Next.{Stays, next-either}
-use Rattle.rules.proofs.Refusals.{refused-same}
 use Rattle.rules.proofs.Rest.{Ends, acts, quiet}
 use Rattle.rules.proofs.Runs.{action-first, action-none, after-first, after-none, read-back, steps-loud}
 use Rattle.rules.proofs.Stages.{ends-within}
@@ -83,6 +83,20 @@ quiet-stays t x e =
     (next-either t x)
     (λ q. q)
     (λ q. absurd (not-both (rw (q .2 .does) at e) (loud (q .0) t x (q .1))))
+
+-- after the steps to quiet comes quiet
+pub steps-quiet : (t : Table) (x : State) → Rests t x → isQuiet (actionAfter t x (stepsToQuiet t x)) ≡ true
+unfolding stepsToQuiet
+steps-quiet t x h = go (sought (λ k. isQuiet (actionAfter t x k)) (4 * t .count))
+  where
+    go : {i : ℕ} → Sought (λ k. isQuiet (actionAfter t x k)) (4 * t .count) i → isQuiet (actionAfter t x i) ≡ true
+    go (found l) = l .passes
+    go (nowhere n) =
+        let q = h .quiet in
+        either
+        (eq-or-lt-of-le (q .1))
+        (λ e. rw (← e) (ap isQuiet (q .2)))
+        (λ m. absurd (not-both (ap isQuiet (q .2)) (n (q .0) m)))
 
 -- ---- the actions among the marks
 
@@ -141,11 +155,6 @@ module _ (t : Table) where
     abbrev LeavesBy : Call → Outcome → Type 0
     LeavesBy c o = Leaves f (marksOf t x c (o .answer) (o .services) (o .actions)) (o .state)
 
-    passed : (c : Call) (b : Bool) (k : ℕ) (o : Outcome) → (b ≡ true → LeavesBy c o) → LeavesBy c (check c x b k o)
-    unfolding check marksOf
-    passed c true k o h = h refl
-    passed c false k o h = nothing f x e
-
     run-leaves : (ss as′ : List ℕ) → 4 * t .count ≤ length ss → 4 * t .count ≤ length as′
         → Leaves f (readBack t x (writtenServices t x ss) (writtenActions t x as′) (stepsToQuiet t x)) (stateAfter t x (stepsToQuiet t x))
     run-leaves ss as′ a b =
@@ -154,24 +163,21 @@ module _ (t : Table) where
         let m = actions-listed (actionAfter t x) (λ i. deadlineKill t (stateAfter t x i)) (stepsToQuiet t x) in
         rw (read-back t x ss as′ a b) (r .0, r .1, omega arith)
 
-    refusal : (c : Call) → accepted t x c ≡ false → Leaves f (marks t x c) (outcome t x c .state)
-    unfolding accepted
-    refusal c a = let q = refused-same t x c (not-false _ .0 a) in rw (q .0, q .1) (nothing f x e)
+    by-came : {c : Call} {o : Outcome} → Came t x c o → (isEvent c && not (isRefused (o .answer))) ≡ false → LeavesBy c o
+    unfolding marksOf
+    by-came (refuses k) a = nothing f x e
+    by-came (starts l) a = no-tf a
+    by-came (stops l) a = no-tf a
+    by-came stops-all a = no-tf a
+    by-came (ends l lives) a = no-tf a
+    by-came (clocks l m) a = no-tf a
+    by-came came-acts a = next-leaves f x e (deadlineKill t x)
+    by-came tells a = nothing f x e
+    by-came (runs {ss} {as′} l m) a = run-leaves ss as′ l m
 
     call-leaves : (c : Call) → (isEvent c && accepted t x c) ≡ false → Leaves f (marks t x c) (outcome t x c .state)
-    call-leaves (start s) a = refusal (start s) a
-    call-leaves (stop s) a = refusal (stop s) a
-    call-leaves (clock n) a = refusal (clock n) a
-    call-leaves (end s good) a = refusal (end s good) a
-    call-leaves stopAll a = refusal stopAll a
-    call-leaves next a = unfold marks in unfold outcome in unfold marksOf in passed next (formed t x) _ _ (λ _. next-leaves f x e (deadlineKill t x))
-    call-leaves query a = unfold marks in unfold outcome in unfold marksOf in passed query (formed t x) _ _ (λ _. nothing f x e)
-    call-leaves (run ss as′) a =
-        unfold marks in unfold outcome in unfold marksOf in
-        passed (run ss as′) (formed t x) _ _
-        (λ _.
-        passed (run ss as′) (leb (4 * t .count) (length ss) && leb (4 * t .count) (length as′)) _ _
-        (λ r. let q = and-true (leb (4 * t .count) (length ss)) _ .0 r in run-leaves ss as′ (leb-true _ _ (q .0)) (leb-true _ _ (q .1))))
+    unfolding marks accepted
+    call-leaves c a = by-came (came t x c) a
 
   few-actions : (cs : List Call) (f : ℕ) (x : State) → Ends t f x → eventless t x cs ≡ true → actionsIn (story t x cs) ≤ f
   unfolding story eventless

@@ -1,8 +1,7 @@
 -- The rounds: after a stop all, each round after the first takes down a service, so n + 1 rounds take all down.
-use Prim.Native.Nat.{_*_, _+_, _<_, _≤_, suc, zero, ℕ}
+use Prim.Native.Nat.{_+_, _<_, _≤_, suc, zero, ℕ}
 use borrow.Author.Tests.{le-leb}
-use lib.Dec.{leb, lit<, lit≤, ltb}
-use lib.ListN.{length}
+use lib.Dec.{lit<, lit≤}
 use mathlib.Core.Bool.{Bool, _&&_, _||_, false, not, true}
 use mathlib.Core.List.{List, [], _++_, _∷_}
 use mathlib.Core.Logic.{_⊎_, inl, inr}
@@ -11,11 +10,10 @@ use native.Mathlib.Nat.{eq-or-lt-of-le, le-of-suc-le-suc, le-refl, le-trans, not
 use native.Mathlib.Omega.{arith}
 use Rattle.base.specs.Folds.{pick, some, sum}
 use Rattle.base.specs.Links.{Path, link}
-use Rattle.base.proofs.Below.{Sought, found, nowhere, some-false, some-true, sought}
+use Rattle.base.proofs.Below.{some-false, some-true}
 use Rattle.base.proofs.Links.{join}
 use Rattle.base.proofs.Sums.{sum-bound, sum-le, sum-lt, sum-term}
 use Rattle.base.proofs.Tests.{either, no-ft, not-both, not-false, not-true, or-not, refute, tests}
-use Rattle.service.specs.Limits.{lastClock}
 use Rattle.service.specs.Numbers.{isQuiet}
 use Rattle.service.specs.Records.{active, isDown, isEnding, isStarting, isUp, isUser, recordAt}
 use Rattle.service.specs.Settings.{settingsAt}
@@ -25,20 +23,20 @@ use Rattle.service.specs.declared.Phase.{Phase}
 use Rattle.service.specs.declared.Phase.the-variants.{Ending}
 use Rattle.service.specs.declared.Record.{Record}
 use Rattle.service.specs.declared.State.{State}
-use Rattle.service.specs.declared.Step.{Step}
 use Rattle.service.specs.declared.Table.{Table}
 use Rattle.service.proofs.Finite.{bools, finite, given, phases}
 use Rattle.service.proofs.Named.{is-ending}
 use Rattle.service.proofs.States.{Sized, with-same}
-use Rattle.rules.specs.Calls.{Answer, Call, Outcome, acted, check, clock, done, end, gives, next, outcome, ran, refused, run, told}
+use Rattle.rules.specs.Calls.{Answer, Call, Outcome, acted, clock, done, end, next, outcome, ran, refused, run, told}
 use Rattle.rules.specs.Demand.{Clear, NoZeroTimeout, Now, Reported, Rests, Round, Rounds, Stretch, ToQuiet, accepted, another, by-run, call, empty, freshNow, here, isRefused, isStart, no-rounds, nowAfter, recorded, round, sent, singly, there}
 use Rattle.rules.specs.Dependencies.{blocked, hard, hardLinks}
 use Rattle.rules.specs.Events.{afterClock, afterEnd, endedAs}
-use Rattle.rules.specs.Rules.{due, nextAction}
-use Rattle.rules.specs.Runs.{actionAfter, stateAfter, stepsToQuiet, writtenActions, writtenServices}
-use Rattle.rules.specs.WellFormed.{formed, shapedAt, tableFormed}
+use Rattle.rules.specs.Rules.{Step, due}
+use Rattle.rules.specs.Runs.{actionAfter, stateAfter, stepsToQuiet}
+use Rattle.rules.specs.WellFormed.{shapedAt, tableFormed}
 use Rattle.rules.specs.declared.Rule.the-variants.{End, Expire}
-use Rattle.rules.proofs.Doom.{Drift, doomed-active, doomed-user, drift-call, drift-here}
+use Rattle.rules.proofs.Came.{Came, acts, came, clocks, ends, refuses, runs}
+use Rattle.rules.proofs.Halting.{Since, halting-active, halting-user, since-call, since-here}
 use Rattle.rules.proofs.Fed.{call-leads}
 use Rattle.rules.proofs.Fitting.{end-fits, expire-fits}
 use Rattle.rules.proofs.Formed.{sound-formed}
@@ -46,7 +44,7 @@ use Rattle.rules.proofs.Held.{Unblocked, unblocked}
 use Rattle.rules.proofs.Links.{TableSound, no-hard-cycle}
 use Rattle.rules.proofs.Next.{Stays}
 use Rattle.rules.proofs.Recorded.{Good}
-use Rattle.rules.proofs.Resting.{quiet-stays, rests-everywhere}
+use Rattle.rules.proofs.Resting.{quiet-stays, rests-everywhere, steps-quiet}
 use Rattle.rules.proofs.Safety.{fresh-good, good-feeds}
 use Rattle.rules.proofs.SentKill.{KilledSent, fresh-sent, sent-feeds}
 use Rattle.rules.proofs.Shapes.{active-not-down, down-dead, ending-lives, user-caused}
@@ -136,49 +134,30 @@ one-unblocked t ts x s sl d =
 -- ---- what an accepted clock reading, end and run do
 
 clock-state : (t : Table) (x : State) (n : ℕ) → accepted t x (clock n) ≡ true → outcome t x (clock n) .state ≡ afterClock x n
-unfolding outcome check accepted
-clock-state t x n a = go (formed t x) (leb (x .clock) n) (leb n lastClock) a
+unfolding accepted
+clock-state t x n a = go (came t x (clock n)) a
   where
-    go : (b c d : Bool)
-        → not (isRefused (check (clock n) x b 24 (check (clock n) x c 22 (check (clock n) x d 23 (gives (clock n) done (afterClock x n)))) .answer)) ≡ true
-        → check (clock n) x b 24 (check (clock n) x c 22 (check (clock n) x d 23 (gives (clock n) done (afterClock x n)))) .state ≡ afterClock x n
-    go true true true e = refl
-    go true true false e = no-ft e
-    go true false d e = no-ft e
-    go false c d e = no-ft e
+    go : {o : Outcome} → Came t x (clock n) o → not (isRefused (o .answer)) ≡ true → o .state ≡ afterClock x n
+    go (refuses k) e = no-ft e
+    go (clocks l m) e = refl
 
 end-state : (t : Table) (x : State) (s : ℕ) (good : Bool) → accepted t x (end s good) ≡ true
     → (recordAt x s .live ≡ true) × (outcome t x (end s good) .state ≡ afterEnd t x s good)
-unfolding outcome check accepted
-end-state t x s good a = go (formed t x) (ltb s (t .count)) (recordAt x s .live) a
+unfolding accepted
+end-state t x s good a = go (came t x (end s good)) a
   where
-    go : (b c d : Bool)
-        → not (isRefused (check (end s good) x b 24 (check (end s good) x c 20 (check (end s good) x d 21 (gives (end s good) done (afterEnd t x s good)))) .answer)) ≡ true
-        → (d ≡ true) × (check (end s good) x b 24 (check (end s good) x c 20 (check (end s good) x d 21 (gives (end s good) done (afterEnd t x s good)))) .state ≡ afterEnd t x s good)
-    go true true true e = (refl, refl)
-    go true true false e = no-ft e
-    go true false d e = no-ft e
-    go false c d e = no-ft e
+    go : {o : Outcome} → Came t x (end s good) o → not (isRefused (o .answer)) ≡ true → (recordAt x s .live ≡ true) × (o .state ≡ afterEnd t x s good)
+    go (refuses k) e = no-ft e
+    go (ends l lives) e = (lives, refl)
 
 run-state : (t : Table) (x : State) (ss as′ : List ℕ) → accepted t x (run ss as′) ≡ true → outcome t x (run ss as′) .state ≡ stateAfter t x (stepsToQuiet t x)
-unfolding outcome check accepted
-run-state t x ss as′ a = go (formed t x) (leb (4 * t .count) (length ss) && leb (4 * t .count) (length as′)) a
+unfolding accepted
+run-state t x ss as′ a = go (came t x (run ss as′)) a
   where
-    ranOut : Outcome
-    ranOut = record {
-      answer = ran (stepsToQuiet t x);
-      state = stateAfter t x (stepsToQuiet t x);
-      services = writtenServices t x ss;
-      actions = writtenActions t x as′;
-    }
+    go : {o : Outcome} → Came t x (run ss as′) o → not (isRefused (o .answer)) ≡ true → o .state ≡ stateAfter t x (stepsToQuiet t x)
+    go (refuses k) e = no-ft e
+    go (runs l m) e = refl
 
-    go : (b c : Bool) → not (isRefused (check (run ss as′) x b 24 (check (run ss as′) x c 25 ranOut) .answer)) ≡ true
-        → check (run ss as′) x b 24 (check (run ss as′) x c 25 ranOut) .state ≡ stateAfter t x (stepsToQuiet t x)
-    go true true e = refl
-    go true false e = no-ft e
-    go false c e = no-ft e
-
--- a quiet answer leaves the state, in which no rule fits
 abbrev quietly : Answer → Bool
 quietly (refused k) = false
 quietly done = false
@@ -186,30 +165,18 @@ quietly (acted a) = isQuiet a
 quietly (ran n) = false
 quietly (told d) = false
 
+-- a quiet answer leaves the state, in which no rule fits
 next-quiet : (t : Table) (x : State) → outcome t x next .answer ≡ acted Quiet → (outcome t x next .state ≡ x) × Stays t x
-unfolding outcome check
-next-quiet t x a = go (formed t x) (ap quietly a)
+next-quiet t x a = go (came t x next) (ap quietly a)
   where
-    go : (b : Bool) → quietly (check next x b 24 (gives next (acted (nextAction t x .action)) (nextAction t x .state)) .answer) ≡ true
-        → (check next x b 24 (gives next (acted (nextAction t x .action)) (nextAction t x .state)) .state ≡ x) × Stays t x
-    go true e = let q = quiet-stays t x e in (ap (λ (o : Step). o .state) (q .does), q)
-    go false e = no-ft e
+    go : {o : Outcome} → Came t x next o → quietly (o .answer) ≡ true → (o .state ≡ x) × Stays t x
+    go (refuses k) e = no-ft e
+    go acts e = let q = quiet-stays t x e in (ap (λ (o : Step). o .state) (q .does), q)
 
 -- a run to quiet comes to quiet
 run-quiet : (t : Table) (x : State) → Rests t x → Stays t (stateAfter t x (stepsToQuiet t x))
-unfolding stepsToQuiet actionAfter
-run-quiet t x h = quiet-stays t _ (go (sought (λ k. isQuiet (actionAfter t x k)) (4 * t .count)))
-  where
-    go : {i : ℕ} → Sought (λ k. isQuiet (actionAfter t x k)) (4 * t .count) i → isQuiet (actionAfter t x i) ≡ true
-    go (found {i} l) = l .passes
-    go (nowhere n) =
-        let q = h .quiet in
-        let e : q .0 ≡ 4 * t .count =
-        either
-        (eq-or-lt-of-le (q .1))
-        (λ e. e)
-        (λ m. absurd (not-both (ap isQuiet (q .2)) (n (q .0) m))) in
-        rw (← e) (ap isQuiet (q .2))
+unfolding actionAfter
+run-quiet t x h = quiet-stays t _ (steps-quiet t x h)
 
 less : (a b : Bool) → (a ≡ true → b ≡ true) → pick b 0 1 ≤ pick a 0 1
 less true true h = le-refl 0
@@ -240,24 +207,24 @@ module _ (t : Table) (tf : tableFormed t ≡ true) (ts : TableSound t) (nz : NoZ
   }
 
   -- and on the way down from x₀
-  pub record Fate (x₀ : State) (n : Now) : Type 0 where
-    pub drift : Drift t x₀ (n .state)
+  pub record HaltingSince (x₀ : State) (n : Now) : Type 0 where
+    pub since : Since t x₀ (n .state)
     pub reached : Reached n
 
-  fate-call : (x₀ : State) (n : Now) (c : Call) → (isStart c && accepted t (n .state) c) ≡ false → Fate x₀ n → Fate x₀ (nowAfter t n c)
-  fate-call x₀ n c b f = record {
-    drift = unfold nowAfter in drift-call t (ts .few) x₀ (n .state) c b (f .drift);
+  halt-call : (x₀ : State) (n : Now) (c : Call) → (isStart c && accepted t (n .state) c) ≡ false → HaltingSince x₀ n → HaltingSince x₀ (nowAfter t n c)
+  halt-call x₀ n c b f = record {
+    since = unfold nowAfter in since-call t (ts .few) x₀ (n .state) c b (f .since);
     reached = reached-call n (f .reached) c;
   }
 
-  pub fate-stretch : (x₀ : State) {n n′ : Now} {cs : List Call} → Stretch t n cs n′ → Fate x₀ n → Fate x₀ n′
-  fate-stretch x₀ empty f = f
-  fate-stretch x₀ (call {n = n} c b r) f = fate-stretch x₀ r (fate-call x₀ n c b f)
+  pub halt-stretch : (x₀ : State) {n n′ : Now} {cs : List Call} → Stretch t n cs n′ → HaltingSince x₀ n → HaltingSince x₀ n′
+  halt-stretch x₀ empty f = f
+  halt-stretch x₀ (call {n = n} c b r) f = halt-stretch x₀ r (halt-call x₀ n c b f)
 
-  pub fate-here : {x₀ : State} {n : Now} → Fate x₀ n → Fate (n .state) n
-  fate-here {x₀} {n} f = record { drift = drift-here t (ts .few) x₀ (n .state) (f .drift); reached = f .reached }
+  pub halt-here : {x₀ : State} {n : Now} → HaltingSince x₀ n → HaltingSince (n .state) n
+  halt-here {x₀} {n} f = record { since = since-here t (ts .few) x₀ (n .state) (f .since); reached = f .reached }
 
-  shapes : {x₀ : State} {n : Now} → Fate x₀ n → (s : ℕ) → s < t .count → shapedAt t (n .state) s ≡ true
+  shapes : {x₀ : State} {n : Now} → HaltingSince x₀ n → (s : ℕ) → s < t .count → shapedAt t (n .state) s ≡ true
   shapes f s l = f .reached .good .kept .sound .shapes s l
 
   -- actions taken to quiet are a stretch, and leave a quiet state
@@ -269,11 +236,11 @@ module _ (t : Table) (tf : tableFormed t ≡ true) (ts : TableSound t) (nz : NoZ
   quiet-stretch (by-run ss as′ a) = call (run ss as′) refl empty
   quiet-stretch (singly r e a) = stretch-end r next refl
 
-  quiet-there : {x₀ : State} {n n′ : Now} {cs : List Call} → ToQuiet t n cs n′ → Fate x₀ n → Stays t (n′ .state)
+  quiet-there : {x₀ : State} {n n′ : Now} {cs : List Call} → ToQuiet t n cs n′ → HaltingSince x₀ n → Stays t (n′ .state)
   unfolding nowAfter
   quiet-there {n = n} (by-run ss as′ a) f =
       rw (run-state t (n .state) ss as′ a)
-      (run-quiet t (n .state) (rests-everywhere t (n .state) (f .drift .sized) (sound-formed t (n .state) tf (f .reached .good .kept .sound))))
+      (run-quiet t (n .state) (rests-everywhere t (n .state) (f .since .sized) (sound-formed t (n .state) tf (f .reached .good .kept .sound))))
   quiet-there (singly {n′ = n′} r e a) f = let q = next-quiet t (n′ .state) a in rw (q .0) (q .1)
 
   -- an accepted end takes down what is ending
@@ -285,13 +252,13 @@ module _ (t : Table) (tf : tableFormed t ≡ true) (ts : TableSound t) (nz : NoZ
       go : (p : Phase) → p ≡ Ending → isDown (endedAs p (settingsAt t s) (x .clock) good (recordAt x s) .phase) ≡ true
       go p q = rw q
 
-  down-not-live : {x₀ : State} {n : Now} (s : ℕ) → s < t .count → Fate x₀ n → isDown (recordAt (n .state) s .phase) ≡ true → recordAt (n .state) s .live ≡ false
+  down-not-live : {x₀ : State} {n : Now} (s : ℕ) → s < t .count → HaltingSince x₀ n → isDown (recordAt (n .state) s .phase) ≡ true → recordAt (n .state) s .live ≡ false
   unfolding shapedAt
   down-not-live {n = n} s l f d =
       not-true _ .0 (down-dead (settingsAt t s .kind) (recordAt (n .state) s .phase) (recordAt (n .state) s .live) (recordAt (n .state) s .cause) (shapes f s l) d)
 
   -- an end that is reported takes its service down, if it was ending
-  reported-down : (s : ℕ) → s < t .count → {n n′ : Now} {cs : List Call} → Reported t s n cs → Stretch t n cs n′ → Fate (n .state) n
+  reported-down : (s : ℕ) → s < t .count → {n n′ : Now} {cs : List Call} → Reported t s n cs → Stretch t n cs n′ → HaltingSince (n .state) n
       → (isDown (recordAt (n .state) s .phase) ≡ true) ⊎ (isEnding (recordAt (n .state) s .phase) ≡ true) → isDown (recordAt (n′ .state) s .phase) ≡ true
   reported-down s l {n} (here good a) (call c b r) f y =
       let k = end-state t (n .state) s good a in
@@ -300,16 +267,16 @@ module _ (t : Table) (tf : tableFormed t ≡ true) (ts : TableSound t) (nz : NoZ
       either
       y
       (λ d. absurd (not-both (k .0) (down-not-live s l f d)))
-      (λ e. unfold nowAfter in rw (k .1) (end-down (n .state) s good l (f .drift .sized) e)) in
-      fate-stretch (n1 .state) r (fate-here (fate-call (n .state) n (end s good) b f)) .drift .goes s l .down down1
+      (λ e. unfold nowAfter in rw (k .1) (end-down (n .state) s good l (f .since .sized) e)) in
+      halt-stretch (n1 .state) r (halt-here (halt-call (n .state) n (end s good) b f)) .since .goes s l .down down1
   reported-down s l {n} (there _ e) (call c b r) f y =
-      let f1 = fate-call (n .state) n c b f in
-      let g = f1 .drift .goes s l in
-      reported-down s l e r (fate-here f1)
+      let f1 = halt-call (n .state) n c b f in
+      let g = f1 .since .goes s l in
+      reported-down s l e r (halt-here f1)
       (either y (λ d. inl (g .down d)) (λ u. either (g .ending u) (λ d. inl d) (λ m. inr (m .0))))
 
   -- the process of a service that is ending lives, by the record
-  ending-recorded : {x₀ : State} {n : Now} → Fate x₀ n → (s : ℕ) → s < t .count → isEnding (recordAt (n .state) s .phase) ≡ true → n .live s ≡ true
+  ending-recorded : {x₀ : State} {n : Now} → HaltingSince x₀ n → (s : ℕ) → s < t .count → isEnding (recordAt (n .state) s .phase) ≡ true → n .live s ≡ true
   unfolding shapedAt
   ending-recorded {n = n} f s l e =
       f .reached .good .same s l
@@ -344,98 +311,98 @@ module _ (t : Table) (tf : tableFormed t ≡ true) (ts : TableSound t) (nz : NoZ
 
   -- what a round comes to
   record Turned (n n′ : Now) : Type 0 where
-    fate : Fate (n .state) n′
+    halt : HaltingSince (n .state) n′
     ready : Ready (n′ .state)
     gone : (s : ℕ) → s < t .count → isEnding (recordAt (n .state) s .phase) ≡ true → isDown (recordAt (n′ .state) s .phase) ≡ true
 
-  turn : {n n′ : Now} {cs : List Call} → Round t n cs n′ → Fate (n .state) n → Turned n n′
+  turn : {n n′ : Now} {cs : List Call} → Round t n cs n′ → HaltingSince (n .state) n → Turned n n′
   unfolding Ready
-  turn {n} (round {n1 = n1} {n2 = n2} {n3 = n3} {n4 = n4} {n5 = n5} c sa acc past sb q3 sd rep q5) f = record {
-    fate = all5;
+  turn {n} (round {waited = waited} {read = read} {still = still} {reported = reported} {over = over} c paused taken past passed calmed ended rep rested) f = record {
+    halt = at-over;
     ready = λ s l d u. ready′ s l d u;
     gone = λ s l e. gone′ s l e;
   }
     where
-      f1 : Fate (n .state) n1
-      f1 = fate-stretch (n .state) sa f
+      at-waited : HaltingSince (n .state) waited
+      at-waited = halt-stretch (n .state) paused f
 
       -- from the clock reading on
-      g2 : Fate (n1 .state) n2
-      g2 = fate-stretch (n1 .state) sb (fate-call (n1 .state) n1 (clock c) refl (fate-here f1))
+      at-read : HaltingSince (waited .state) read
+      at-read = halt-stretch (waited .state) passed (halt-call (waited .state) waited (clock c) refl (halt-here at-waited))
 
-      g3 : Fate (n1 .state) n3
-      g3 = fate-stretch (n1 .state) (quiet-stretch q3) g2
+      at-still : HaltingSince (waited .state) still
+      at-still = halt-stretch (waited .state) (quiet-stretch calmed) at-read
 
-      h5 : Fate (n3 .state) n5
-      h5 = fate-stretch (n3 .state) (quiet-stretch q5) (fate-stretch (n3 .state) sd (fate-here g3))
+      on-to-over : HaltingSince (still .state) over
+      on-to-over = halt-stretch (still .state) (quiet-stretch rested) (halt-stretch (still .state) ended (halt-here at-still))
 
-      all5 : Fate (n .state) n5
-      all5 =
-          fate-stretch (n .state) (quiet-stretch q5)
-          (fate-stretch (n .state) sd
-          (fate-stretch (n .state) (quiet-stretch q3) (fate-stretch (n .state) sb (fate-call (n .state) n1 (clock c) refl f1))))
+      at-over : HaltingSince (n .state) over
+      at-over =
+          halt-stretch (n .state) (quiet-stretch rested)
+          (halt-stretch (n .state) ended
+          (halt-stretch (n .state) (quiet-stretch calmed) (halt-stretch (n .state) passed (halt-call (n .state) waited (clock c) refl at-waited))))
 
-      still3 : Stays t (n3 .state)
-      still3 = quiet-there q3 g2
+      quiet-still : Stays t (still .state)
+      quiet-still = quiet-there calmed at-read
 
-      still5 : Stays t (n5 .state)
-      still5 = quiet-there q5 (fate-stretch (n3 .state) sd (fate-here g3))
+      quiet-over : Stays t (over .state)
+      quiet-over = quiet-there rested (halt-stretch (still .state) ended (halt-here at-still))
 
       -- the clock has reached what was pending at the reading
-      reached-clock : c ≤ n3 .state .clock
+      reached-clock : c ≤ still .state .clock
       reached-clock =
-          let m : Now = nowAfter t n1 (clock c) in
-          let a : m .state .clock ≡ c = unfold nowAfter in unfold afterClock in ap (λ (y : State). y .clock) (clock-state t (n1 .state) c acc) in
-          let g : Fate (m .state) m = fate-here (fate-call (n1 .state) n1 (clock c) refl (fate-here f1)) in
-          let b : m .state .clock ≤ n3 .state .clock = fate-stretch (m .state) (quiet-stretch q3) (fate-stretch (m .state) sb g) .drift .clocks in
+          let m : Now = nowAfter t waited (clock c) in
+          let a : m .state .clock ≡ c = unfold nowAfter in unfold afterClock in ap (λ (y : State). y .clock) (clock-state t (waited .state) c taken) in
+          let g : HaltingSince (m .state) m = halt-here (halt-call (waited .state) waited (clock c) refl (halt-here at-waited)) in
+          let b : m .state .clock ≤ still .state .clock = halt-stretch (m .state) (quiet-stretch calmed) (halt-stretch (m .state) passed g) .since .clocks in
           omega arith
 
       -- a deadline of the reading that still stands is past
-      overdue : (s : ℕ) → s < t .count → timing (recordAt (n1 .state) s .phase) ≡ true → recordAt (n3 .state) s .deadline ≡ recordAt (n1 .state) s .deadline
-          → (e : ℕ) × (recordAt (n3 .state) s .deadline ≡ At e) × (e ≤ n3 .state .clock)
+      overdue : (s : ℕ) → s < t .count → timing (recordAt (waited .state) s .phase) ≡ true → recordAt (still .state) s .deadline ≡ recordAt (waited .state) s .deadline
+          → (e : ℕ) × (recordAt (still .state) s .deadline ≡ At e) × (e ≤ still .state .clock)
       overdue s l b d =
-          let k = f1 .reached .timed .timed s l b in
+          let k = at-waited .reached .timed .timed s l b in
           let p : k .0 ≤ c = past s (k .0) l (k .1) in
           let r = reached-clock in
           (k .0, d ∙ k .1, le-trans p r)
 
-      ready′ : (s : ℕ) → s < t .count → isDown (recordAt (n5 .state) s .phase) ≡ false → Unblocked t (n5 .state) s → isEnding (recordAt (n5 .state) s .phase) ≡ true
+      ready′ : (s : ℕ) → s < t .count → isDown (recordAt (over .state) s .phase) ≡ false → Unblocked t (over .state) s → isEnding (recordAt (over .state) s .phase) ≡ true
       ready′ s l d u =
-          let doom = all5 .drift .doom s l in
-          let r : Record = recordAt (n5 .state) s in
-          let on′ : active (r .phase) ≡ true = doomed-active (r .phase) (r .aside) (r .wanted) (r .cause) doom (not-true _ .1 d) in
-          let user : isUser (r .cause) ≡ true = doomed-user (r .phase) (r .aside) (r .wanted) (r .cause) doom on′ in
+          let halts = at-over .since .halting s l in
+          let r : Record = recordAt (over .state) s in
+          let on′ : active (r .phase) ≡ true = halting-active (r .phase) (r .aside) (r .wanted) (r .cause) halts (not-true _ .1 d) in
+          let user : isUser (r .cause) ≡ true = halting-user (r .phase) (r .aside) (r .wanted) (r .cause) halts on′ in
           left-ending (r .phase) on′
           (not-true _ .1
           (refute (isUp (r .phase))
           (λ b.
           not-both
-          (end-fits t (n5 .state) s .1 record { up = b; caused = not-true _ .0 (user-caused (r .cause) user); unblocked = unblocked t (n5 .state) s .1 u })
-          (still5 .none End s l))))
+          (end-fits t (over .state) s .1 record { up = b; caused = not-true _ .0 (user-caused (r .cause) user); unblocked = unblocked t (over .state) s .1 u })
+          (quiet-over .none End s l))))
           (not-true _ .1
           (refute (isStarting (r .phase))
           (λ e.
-          let k = h5 .drift .goes s l .starting e in
-          let m = g3 .drift .goes s l .starting (k .0) in
-          let w = overdue s l (starting-timing (recordAt (n1 .state) s .phase) (m .0)) (m .1) in
-          not-starting (n3 .state) still3 s l (w .0) (w .1) (w .2) (k .0))))
+          let k = on-to-over .since .goes s l .starting e in
+          let m = at-still .since .goes s l .starting (k .0) in
+          let w = overdue s l (starting-timing (recordAt (waited .state) s .phase) (m .0)) (m .1) in
+          not-starting (still .state) quiet-still s l (w .0) (w .1) (w .2) (k .0))))
 
-      gone′ : (s : ℕ) → s < t .count → isEnding (recordAt (n .state) s .phase) ≡ true → isDown (recordAt (n5 .state) s .phase) ≡ true
+      gone′ : (s : ℕ) → s < t .count → isEnding (recordAt (n .state) s .phase) ≡ true → isDown (recordAt (over .state) s .phase) ≡ true
       gone′ s l e =
           either
-          (f1 .drift .goes s l .ending e)
-          (λ d. h5 .drift .goes s l .down (g3 .drift .goes s l .down d))
+          (at-waited .since .goes s l .ending e)
+          (λ d. on-to-over .since .goes s l .down (at-still .since .goes s l .down d))
           (λ k.
           either
-          (g3 .drift .goes s l .ending (k .0))
-          (λ d. h5 .drift .goes s l .down d)
+          (at-still .since .goes s l .ending (k .0))
+          (λ d. on-to-over .since .goes s l .down d)
           (λ m.
-          let w = overdue s l (ending-timing (recordAt (n1 .state) s .phase) (k .0)) (m .1) in
-          let d4 : isDown (recordAt (n4 .state) s .phase) ≡ true =
+          let w = overdue s l (ending-timing (recordAt (waited .state) s .phase) (k .0)) (m .1) in
+          let down-reported : isDown (recordAt (reported .state) s .phase) ≡ true =
           reported-down s l
-          (rep s l (ending-recorded g3 s l (m .0)) (g3 .reached .sends .sends s l (is-killed (n3 .state) still3 s l (w .0) (w .1) (w .2) (m .0)) .1))
-          sd (fate-here g3) (inr (m .0)) in
-          fate-stretch (n4 .state) (quiet-stretch q5) (fate-here (fate-stretch (n3 .state) sd (fate-here g3))) .drift .goes s l .down d4))
+          (rep s l (ending-recorded at-still s l (m .0)) (at-still .reached .sends .sends s l (is-killed (still .state) quiet-still s l (w .0) (w .1) (w .2) (m .0)) .1))
+          ended (halt-here at-still) (inr (m .0)) in
+          halt-stretch (reported .state) (quiet-stretch rested) (halt-here (halt-stretch (still .state) ended (halt-here at-still))) .since .goes s l .down down-reported))
 
   -- ---- how many services are not down
 
@@ -476,33 +443,33 @@ module _ (t : Table) (tf : tableFormed t ≡ true) (ts : TableSound t) (nz : NoZ
 
   -- after j + 1 rounds
   record After (j : ℕ) (n : Now) : Type 0 where
-    fate : Fate (n .state) n
+    halt : HaltingSince (n .state) n
     ready : Ready (n .state)
     few : (count (n .state) ≡ 0) ⊎ (count (n .state) + j ≤ t .count)
 
   Then : ℕ → Now → Type 0
-  Then zero n = Fate (n .state) n
+  Then zero n = HaltingSince (n .state) n
   Then (suc j) n = After j n
 
-  first-round : {n n′ : Now} {cs : List Call} → Round t n cs n′ → Fate (n .state) n → After 0 n′
+  first-round : {n n′ : Now} {cs : List Call} → Round t n cs n′ → HaltingSince (n .state) n → After 0 n′
   first-round {n} {n′} r f =
       let y = turn r f in
       let c = count-all (n′ .state) in
-      record { fate = fate-here (y .fate); ready = y .ready; few = inr (omega arith) }
+      record { halt = halt-here (y .halt); ready = y .ready; few = inr (omega arith) }
 
   next-round : (j : ℕ) {n n′ : Now} {cs : List Call} → Round t n cs n′ → After j n → After (suc j) n′
   unfolding Ready Lasts
   next-round j {n} {n′} r a = record {
-    fate = fate-here (y .fate);
+    halt = halt-here (y .halt);
     ready = y .ready;
     few = falls (a .few) (or-not (some (λ s. not (isDown (recordAt (n .state) s .phase))) (t .count)));
   }
     where
       y : Turned n n′
-      y = turn r (a .fate)
+      y = turn r (a .halt)
 
       downs : Lasts (n .state) (n′ .state)
-      downs s l d = y .fate .drift .goes s l .down d
+      downs s l d = y .halt .since .goes s l .down d
 
       falls : (count (n .state) ≡ 0) ⊎ (count (n .state) + j ≤ t .count)
           → (some (λ s. not (isDown (recordAt (n .state) s .phase))) (t .count) ≡ true) ⊎ (some (λ s. not (isDown (recordAt (n .state) s .phase))) (t .count) ≡ false)
@@ -516,7 +483,7 @@ module _ (t : Table) (tf : tableFormed t ≡ true) (ts : TableSound t) (nz : NoZ
       falls (inr h) (inr u) =
           inl (count-none (n′ .state) (λ s l. downs s l (not-false _ .0 (some-false (λ s. not (isDown (recordAt (n .state) s .phase))) (t .count) .0 u s l))))
 
-  after-rounds : {k : ℕ} {n n′ : Now} {cs : List Call} → Rounds t k n cs n′ → Fate (n .state) n → Then k n′
+  after-rounds : {k : ℕ} {n n′ : Now} {cs : List Call} → Rounds t k n cs n′ → HaltingSince (n .state) n → Then k n′
   unfolding Then
   after-rounds no-rounds f = f
   after-rounds (another {k} {n′ = n1} {n″ = n2} {ds = ds} rs r) f = go k r (after-rounds rs f)
@@ -525,7 +492,7 @@ module _ (t : Table) (tf : tableFormed t ≡ true) (ts : TableSound t) (nz : NoZ
       go zero r f = first-round r f
       go (suc j) r a = next-round j r a
 
-  pub all-down : {n n′ : Now} {cs : List Call} → Rounds t (suc (t .count)) n cs n′ → Fate (n .state) n
-      → Fate (n′ .state) n′ × ((s : ℕ) → s < t .count → isDown (recordAt (n′ .state) s .phase) ≡ true)
+  pub all-down : {n n′ : Now} {cs : List Call} → Rounds t (suc (t .count)) n cs n′ → HaltingSince (n .state) n
+      → HaltingSince (n′ .state) n′ × ((s : ℕ) → s < t .count → isDown (recordAt (n′ .state) s .phase) ≡ true)
   unfolding Then
-  all-down {n′ = n′} rs f = let a = after-rounds rs f in (a .fate, none-count (n′ .state) (either (a .few) (λ z. z) (λ h. omega arith)))
+  all-down {n′ = n′} rs f = let a = after-rounds rs f in (a .halt, none-count (n′ .state) (either (a .few) (λ z. z) (λ h. omega arith)))

@@ -10,30 +10,27 @@ use Rattle.base.proofs.Tests.{either, no-ft, not-both, not-true}
 use Rattle.service.specs.Limits.{maxServices}
 use Rattle.service.specs.Records.{freshState, isEnding, isStarting, recordAt, withRecord}
 use Rattle.service.specs.Settings.{settingsAt}
-use Rattle.service.specs.declared.Action.the-variants.{Signal}
-use Rattle.service.specs.declared.Kind.{Kind}
-use Rattle.service.specs.declared.Kind.the-variants.{Internal, Process, Scripted}
+use Rattle.service.specs.declared.Action.{Action}
+use Rattle.service.specs.declared.Action.the-variants.{Launch, Moved, Quiet, Signal, StopCommand}
 use Rattle.service.specs.declared.Phase.{Phase}
 use Rattle.service.specs.declared.Phase.the-variants.{Down, Ending, Starting, Up, Waiting}
 use Rattle.service.specs.declared.Record.{Record}
-use Rattle.service.specs.declared.Signal.{Signal as SignalName}
-use Rattle.service.specs.declared.Signal.the-variants.{Hup, Int, Kill, None as NoSignal, Quit, Term, Usr1, Usr2}
 use Rattle.service.specs.declared.State.{State}
 use Rattle.service.specs.declared.Table.{Table}
 use Rattle.service.proofs.Named.{is-down, is-up, is-waiting}
 use Rattle.service.proofs.States.{Sized, fresh-record, fresh-sized, sized-with, with-all}
-use Rattle.rules.specs.Demand.{Set, deadlineKill, handed, killsBy, nobody, sent, without}
+use Rattle.rules.specs.Demand.{ActsOn, Set, deadlineKill, handed, killsBy, nobody, sent, without}
 use Rattle.rules.specs.Events.{afterClock, afterEnd, afterStart, afterStop, afterStopAll, each, endedAs}
-use Rattle.rules.specs.Rules.{act, begunAction, endAction, fits, hands, leaves, nextAction, termAction}
+use Rattle.rules.specs.Rules.{act, expiredAction, fits, hands, leaves, nextAction}
 use Rattle.rules.specs.declared.Choice.the-variants.{Fit}
 use Rattle.rules.specs.declared.Rule.{Rule}
 use Rattle.rules.specs.declared.Rule.the-variants.{Abandon, Begin, End, Expire, Lose, Release, Settle, Wake}
-use Rattle.rules.proofs.Doom.{stopped-ending}
+use Rattle.rules.proofs.Halting.{stopped-ending}
 use Rattle.rules.proofs.Each.{each-below, each-sized}
 use Rattle.rules.proofs.Fed.{Feeds}
 use Rattle.rules.proofs.Fitting.{abandon-fits, begin-fits, end-fits, expire-fits, release-fits, wake-fits}
 use Rattle.rules.proofs.Next.{next-either}
-use Rattle.rules.proofs.Recorded.{with-in, with-others, without-others}
+use Rattle.rules.proofs.Recorded.{hands-on, with-in, with-others, without-others}
 use Rattle.rules.proofs.Rest.{acts}
 use Rattle.rules.proofs.Shapes.{release-not-ending}
 
@@ -41,36 +38,14 @@ pub record KilledSent (t : Table) (u : Set) (x : State) : Type 0 where
   pub sized : Sized x
   pub sends : (s : ℕ) → s < t .count → recordAt x s .killed ≡ true → (isEnding (recordAt x s .phase) ≡ true) × (u s ≡ true)
 
--- what an action that is no deadline's KILL does to the set at the others, and to it at all where it is a move or a signal
-begun-others : (k : Kind) (s e : ℕ) (u : Set) → e ≢ s → sent (handed (begunAction k s) false) u e ≡ u e
-begun-others Process s e u q = without-others s e u q
-begun-others Scripted s e u q = without-others s e u q
-begun-others Internal s e u q = refl
-
-term-leaves : (g : SignalName) (s : ℕ) (u : Set) → sent (handed (termAction g s) false) u ≡ u
-term-leaves NoSignal s u = refl
-term-leaves Hup s u = refl
-term-leaves Int s u = refl
-term-leaves Term s u = refl
-term-leaves Quit s u = refl
-term-leaves Usr1 s u = refl
-term-leaves Usr2 s u = refl
-term-leaves Kill s u = refl
-
-end-others : (k : Kind) (g : SignalName) (s e : ℕ) (u : Set) → e ≢ s → sent (handed (endAction k g s) false) u e ≡ u e
-end-others Process g s e u q = rw (term-leaves g s u)
-end-others Scripted g s e u q = without-others s e u q
-end-others Internal g s e u q = refl
-
-expired-others : (a b : Bool) (s e : ℕ) (u : Set) → e ≢ s → sent (handed (pick a (Signal s Int) (Signal s Kill)) b) u e ≡ u e
-expired-others true true s e u q = with-others s e u q
-expired-others true false s e u q = refl
-expired-others false true s e u q = with-others s e u q
-expired-others false false s e u q = refl
-
-expired-in : (a : Bool) (s : ℕ) (u : Set) → sent (handed (pick a (Signal s Int) (Signal s Kill)) true) u s ≡ true
-expired-in true s u = with-in s u
-expired-in false s u = with-in s u
+-- an action leaves those in the set whom it does not act on
+sent-others : (a : Action) (b : Bool) (u : Set) (e : ℕ) → (ActsOn a e → ⊥) → sent (handed a b) u e ≡ u e
+sent-others Quiet b u e n = refl
+sent-others (Moved s) b u e n = refl
+sent-others (Launch s) b u e n = without-others s e u (λ q. n (sym q))
+sent-others (StopCommand s) b u e n = without-others s e u (λ q. n (sym q))
+sent-others (Signal s g) true u e n = with-others s e u (λ q. n (sym q))
+sent-others (Signal s g) false u e n = refl
 
 module _ (t : Table) (few : t .count ≤ maxServices) where
   sent-with : (u w : Set) (x : State) (s : ℕ) (r : Record) → KilledSent t u x → s < t .count → ((e : ℕ) → e ≢ s → w e ≡ u e)
@@ -97,24 +72,27 @@ module _ (t : Table) (few : t .count ≤ maxServices) where
     unkilled : {A : Type 0} (p : Phase) → isEnding p ≡ false → recordAt x s .phase ≡ p → recordAt x s .killed ≡ true → A
     unkilled p e q d = absurd (not-both (rw q at (h .sends s l d .0)) e)
 
+    others : (k : Rule) (b : Bool) (e : ℕ) → e ≢ s → sent (handed (hands k t x s) b) u e ≡ u e
+    others k b e q = sent-others (hands k t x s) b u e (λ a. q (sym (hands-on k t x s e a)))
+
     rule-sent : (k : Rule) → fits k t x s ≡ true → KilledSent t (sent (handed (hands k t x s) (killsBy (Fit k s) x)) u) (withRecord x s (leaves k t x s))
     unfolding hands leaves
-    rule-sent Lose f = sent-with u u x s _ h l (λ e q. refl) (h .sends s l)
-    rule-sent Abandon f = sent-with u u x s _ h l (λ e q. refl) (unkilled Waiting refl (is-waiting _ (abandon-fits t x s .0 f .waits)))
-    rule-sent Settle f = sent-with u u x s _ h l (λ e q. refl) (λ d. no-ft d)
-    rule-sent Wake f = sent-with u u x s _ h l (λ e q. refl) (unkilled Down refl (is-down _ (wake-fits t x s .0 f .down)))
+    rule-sent Lose f = sent-with u _ x s _ h l (others Lose false) (h .sends s l)
+    rule-sent Abandon f = sent-with u _ x s _ h l (others Abandon false) (unkilled Waiting refl (is-waiting _ (abandon-fits t x s .0 f .waits)))
+    rule-sent Settle f = sent-with u _ x s _ h l (others Settle false) (λ d. no-ft d)
+    rule-sent Wake f = sent-with u _ x s _ h l (others Wake false) (unkilled Down refl (is-down _ (wake-fits t x s .0 f .down)))
     rule-sent Release f =
-        sent-with u u x s _ h l (λ e q. refl)
+        sent-with u _ x s _ h l (others Release false)
         (λ d. absurd (not-both (h .sends s l d .0) (not-true _ .0 (release-not-ending (recordAt x s .phase) (release-fits t x s .0 f .on)))))
-    rule-sent Begin f = sent-with u _ x s _ h l (λ e q. begun-others (settingsAt t s .kind) s e u q) (unkilled Waiting refl (is-waiting _ (begin-fits t x s .0 f .waits)))
-    rule-sent End f = sent-with u _ x s _ h l (λ e q. end-others (settingsAt t s .kind) (settingsAt t s .signal) s e u q) (unkilled Up refl (is-up _ (end-fits t x s .0 f .up)))
+    rule-sent Begin f = sent-with u _ x s _ h l (others Begin false) (unkilled Waiting refl (is-waiting _ (begin-fits t x s .0 f .waits)))
+    rule-sent End f = sent-with u _ x s _ h l (others End false) (unkilled Up refl (is-up _ (end-fits t x s .0 f .up)))
     rule-sent Expire f =
         sent-with u _ x s _ h l
-        (λ e q. expired-others (isStarting (recordAt x s .phase)) (isEnding (recordAt x s .phase)) s e u q)
+        (others Expire (isEnding (recordAt x s .phase)))
         (go (recordAt x s .phase) refl (expire-fits t x s .0 f .which))
       where
         go : (p : Phase) → recordAt x s .phase ≡ p → (isStarting p || isEnding p && not (recordAt x s .killed)) ≡ true → pick (isStarting p) (recordAt x s .killed) true ≡ true
-            → (true ≡ true) × (sent (handed (pick (isStarting p) (Signal s Int) (Signal s Kill)) (isEnding p)) u s ≡ true)
+            → (true ≡ true) × (sent (handed (expiredAction p s) (isEnding p)) u s ≡ true)
         go Down e w d = no-ft w
         go Waiting e w d = no-ft w
         go Starting e w d = unkilled Starting refl e d

@@ -8,7 +8,6 @@ use mathlib.Core.Path.{_≡_, refl}
 use native.Mathlib.Nat.{le-refl, le-trans}
 use native.Mathlib.Omega.{arith}
 use Rattle.base.proofs.Tests.{either, no-ft, not-both, not-true}
-use Rattle.service.specs.Limits.{maxServices}
 use Rattle.service.specs.Records.{isNone, recordAt, withRecord}
 use Rattle.service.specs.Settings.{settingsAt}
 use Rattle.service.specs.declared.Cause.{Cause}
@@ -18,16 +17,14 @@ use Rattle.service.specs.declared.Settings.{Settings}
 use Rattle.service.specs.declared.State.{State}
 use Rattle.service.specs.declared.Table.{Table}
 use Rattle.service.proofs.Named.{is-down, is-up, is-waiting}
-use Rattle.service.proofs.States.{Sized, sized-with}
 use Rattle.rules.specs.Dependencies.{serving}
 use Rattle.rules.specs.Rules.{due, fits, leaves, lostToUser, running}
 use Rattle.rules.specs.Settling.{limitReached, settledAside, settledWanted}
-use Rattle.rules.specs.WellFormed.{shapedAt}
 use Rattle.rules.specs.declared.Rule.{Rule}
 use Rattle.rules.specs.declared.Rule.the-variants.{Abandon, Begin, End, Expire, Lose, Release, Settle, Wake}
 use Rattle.rules.proofs.Along.{along-with}
 use Rattle.rules.proofs.Fitting.{abandon-fits, lose-fits, release-fits, settle-fits, wake-fits}
-use Rattle.rules.proofs.Formed.{shapes-rule}
+use Rattle.rules.proofs.Formed.{AnyStage, any-rule}
 use Rattle.rules.proofs.LastRests.{last-rests, weighLast}
 use Rattle.rules.proofs.LastStage.{Tidy, tidy, unneeded, untidy}
 use Rattle.rules.proofs.Next.{Before, Fires, Nowhere, next-either}
@@ -97,7 +94,7 @@ module _ (t : Table) (x : State) (i : ReleaseStage t x) where
       (λ r. leb-true _ _ (last-release (r .phase) (isNone (r .cause)) (due (x .clock) (r .deadline)) (r .killed)))
 
   to-last : Before t x 5 → Turn t (ReleaseStage t) (total weighRelease t) x
-  to-last b = later (ends-more t (last-rests t x record { few = i .few; sized = i .sized; shapes = i .shapes; before = b }) _ last-le)
+  to-last b = later (ends-more t (last-rests t x record { any = i .any; before = b }) _ last-le)
 
   release-turn : Turn t (ReleaseStage t) (total weighRelease t) x
   release-turn = either (next-either t x) (stays-still t (ReleaseStage t) (total weighRelease t) x) (λ k. go (k .0) (k .1) (k .2))
@@ -110,8 +107,8 @@ module _ (t : Table) (x : State) (i : ReleaseStage t x) where
       falls k s f c l =
           let sl = f .lowest .bound in
           fired-lighter t (ReleaseStage t) (total weighRelease t) x k s f
-          (fall t x s (leaves k t x s) i sl c (shapes-rule t x s k (i .few) (i .sized) (i .shapes) (f .lowest .passes) sl))
-          (total-with weighRelease t x s (leaves k t x s) (i .sized) (i .few) sl l)
+          (fall t x s (leaves k t x s) i sl c (any-rule t x k s (i .any) sl (f .lowest .passes)))
+          (total-with weighRelease t x s (leaves k t x s) (i .any .sized) (i .any .few) sl l)
 
       go : (k : Rule) (s : ℕ) → Fires t x k s → Turn t (ReleaseStage t) (total weighRelease t) x
       go Lose s f = out Lose s f (untidy t x (i .clean))
@@ -129,15 +126,13 @@ release-rests t x i = stage t (ReleaseStage t) (total weighRelease t) (release-t
 -- ---- rule 1 fits nowhere: rules 2, 3 and 4
 
 record TidyStage (t : Table) (x : State) : Type 0 where
-  few : t .count ≤ maxServices
-  sized : Sized x
-  shapes : (s : ℕ) → s < t .count → shapedAt t x s ≡ true
+  any : AnyStage t x
   clean : Tidy t x
 
 module _ (t : Table) (x : State) (i : TidyStage t x) where
   clean-with : (s : ℕ) → s < t .count → (r : Record) → running r ≡ false → serving (recordAt x s) ≡ false → Tidy t (withRecord x s r)
   clean-with s sl r o f =
-      along-with running serving t x s r (i .sized) (le-trans sl (i .few)) (i .clean) (λ y. serving-running (y .phase) (isNone (y .cause)))
+      along-with running serving t x s r (i .any .sized) (le-trans sl (i .any .few)) (i .clean) (λ y. serving-running (y .phase) (isNone (y .cause)))
       (λ a. absurd (not-both a o)) (λ u. absurd (not-both u f))
 
   release-le : total weighRelease t x ≤ total weighTidy t x
@@ -150,9 +145,7 @@ module _ (t : Table) (x : State) (i : TidyStage t x) where
       (ends-more t
       (release-rests t x
       record {
-        few = i .few;
-        sized = i .sized;
-        shapes = i .shapes;
+        any = i .any;
         clean = i .clean;
         no-abandon = b Abandon (lit< tt);
         no-wake = b Wake (lit< tt);
@@ -170,13 +163,8 @@ module _ (t : Table) (x : State) (i : TidyStage t x) where
       falls k s f o d l =
           let sl = f .lowest .bound in
           fired-lighter t (TidyStage t) (total weighTidy t) x k s f
-          record {
-            few = i .few;
-            sized = sized-with x s _ (i .sized);
-            shapes = shapes-rule t x s k (i .few) (i .sized) (i .shapes) (f .lowest .passes) sl;
-            clean = clean-with s sl (leaves k t x s) o d;
-          }
-          (total-with weighTidy t x s (leaves k t x s) (i .sized) (i .few) sl l)
+          record { any = any-rule t x k s (i .any) sl (f .lowest .passes); clean = clean-with s sl (leaves k t x s) o d }
+          (total-with weighTidy t x s (leaves k t x s) (i .any .sized) (i .any .few) sl l)
 
       go : (k : Rule) (s : ℕ) → Fires t x k s → Turn t (TidyStage t) (total weighTidy t) x
       go Lose s f = absurd (not-both (f .lowest .passes) (untidy t x (i .clean) s (f .lowest .bound)))
@@ -203,11 +191,6 @@ tidy-rests t x i = stage t (TidyStage t) (total weighTidy t) (tidy-turn t) (tota
 
 -- ---- any state that list 24 lets pass: rule 1
 
-pub record AnyStage (t : Table) (x : State) : Type 0 where
-  pub few : t .count ≤ maxServices
-  pub sized : Sized x
-  pub shapes : (s : ℕ) → s < t .count → shapedAt t x s ≡ true
-
 module _ (t : Table) (x : State) (i : AnyStage t x) where
   tidy-le : total weighTidy t x ≤ total weighAny t x
   unfolding weighTidy weighAny
@@ -218,7 +201,7 @@ module _ (t : Table) (x : State) (i : AnyStage t x) where
   any-le = total-bound weighAny 4 t x (λ r. leb-true _ _ (any-four (r .phase) (isNone (r .cause)) (r .aside)))
 
   to-tidy : Nowhere t x Lose → Turn t (AnyStage t) (total weighAny t) x
-  to-tidy n = later (ends-more t (tidy-rests t x record { few = i .few; sized = i .sized; shapes = i .shapes; clean = tidy t x n }) _ tidy-le)
+  to-tidy n = later (ends-more t (tidy-rests t x record { any = i; clean = tidy t x n }) _ tidy-le)
 
   any-turn : Turn t (AnyStage t) (total weighAny t) x
   unfolding leaves weighAny
@@ -229,11 +212,7 @@ module _ (t : Table) (x : State) (i : AnyStage t x) where
           let sl = f .lowest .bound in
           let m = lose-fits t x s .0 (f .lowest .passes) in
           fired-lighter t (AnyStage t) (total weighAny t) x Lose s f
-          record {
-            few = i .few;
-            sized = sized-with x s _ (i .sized);
-            shapes = shapes-rule t x s Lose (i .few) (i .sized) (i .shapes) (f .lowest .passes) sl;
-          }
+          (any-rule t x Lose s i sl (f .lowest .passes))
           (total-with weighAny t x s (leaves Lose t x s) (i .sized) (i .few) sl
           (ltb-true _ _ (lose-lighter (recordAt x s .phase) (recordAt x s .cause) (lostToUser t x s) (recordAt x s .aside) (m .on) (m .nil))))
       go Abandon s f = to-tidy (f .before Lose (lit< tt))

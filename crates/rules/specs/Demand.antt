@@ -224,16 +224,16 @@ pub data Reported (t : Table) (s : ℕ) : Now → List Call → Type 0 where
 -- "an accepted clock reading is at or past every pending deadline, actions are taken to quiet, the end of each live
 -- process that was sent a deadline's KILL is reported, and actions are taken to quiet"; other calls may stand between
 pub data Round (t : Table) : Now → List Call → Now → Type 0 where
-  round : {n n1 n2 n3 n4 n5 : Now} {a b q d q′ : List Call} (c : ℕ)
-      → Stretch t n a n1
-      → accepted t (n1 .state) (clock c) ≡ true
-      → ((s e : ℕ) → s < t .count → recordAt (n1 .state) s .deadline ≡ At e → e ≤ c)
-      → Stretch t (nowAfter t n1 (clock c)) b n2
-      → ToQuiet t n2 q n3
-      → Stretch t n3 d n4
-      → ((s : ℕ) → s < t .count → n3 .live s ≡ true → n3 .sentKill s ≡ true → Reported t s n3 d)
-      → ToQuiet t n4 q′ n5
-      → Round t n (a ++ (clock c ∷ (b ++ (q ++ (d ++ q′))))) n5
+  round : {n waited read still reported over : Now} {pause between acts ends rest : List Call} (c : ℕ)
+      → Stretch t n pause waited
+      → accepted t (waited .state) (clock c) ≡ true
+      → ((s e : ℕ) → s < t .count → recordAt (waited .state) s .deadline ≡ At e → e ≤ c)
+      → Stretch t (nowAfter t waited (clock c)) between read
+      → ToQuiet t read acts still
+      → Stretch t still ends reported
+      → ((s : ℕ) → s < t .count → still .live s ≡ true → still .sentKill s ≡ true → Reported t s still ends)
+      → ToQuiet t reported rest over
+      → Round t n (pause ++ (clock c ∷ (between ++ (acts ++ (ends ++ rest))))) over
 
 -- "each begun after the one before has ended"
 pub data Rounds (t : Table) : ℕ → Now → List Call → Now → Type 0 where
@@ -285,16 +285,17 @@ AlwaysFormed = (t : Table) → tableFormed t ≡ true → (cs : List Call) → f
 --                   ActsOn, Clear, Safe; isRefused, isEvent, isStart, accepted, eventless, isAction, actionsIn, Rests;
 --                   Now, freshNow, nowAfter, nowAt, Stretch, ToQuiet, Reported, Round, Rounds, WoundDown, NoZeroTimeout, Holds
 -- Calls.antt        Call, Answer, Outcome, lentServices, lentActions, gives, check, outcome, afterCalls
--- Runs.antt         stateAfter, actionAfter, stepsToQuiet, written, writtenServices, writtenActions, above, sooner, earliest
+-- Runs.antt         stateAfter, actionAfter, stepsToQuiet, written, writtenServices, writtenActions, above, sooner, soonerOf, earliest
 -- Rules.antt        running, nothingToEnd, due, deadlineIn, fits; lostToUser, abandoned, withPhase, released, begun.., ending, expired,
---                   leaves; begunAction, termAction, endAction, hands; rules, chosenFrom, chosen, act, actOn, nextAction
+--                   leftBy, leaves; begunAction, termAction, endAction, expiredAction, handedBy, hands; rules, chosenFrom, chosen, Step,
+--                   act, actOn, nextAction
 -- Events.antt       each, startReaches, revivedCause, startedAs, afterStart; stoppedPhase, stopped, afterStop, afterStopAll; dead,
 --                   startedUp, withCause, endedAs, afterEnd; afterClock
 -- Settling.antt     windowOver, windowNow, countNow, limitReached, settledWanted, settledAside, settledNotBefore, settledWindow,
 --                   settledCount, settledAs, settled
 -- WellFormed.antt   linksInside, settingsInRange, tableFormed, deadlineInRange, timesInRange, shaped, shapedAt, stateFormed, formed
 -- Dependencies.antt hardLinks, strongLinks, allLinks, hard, strong, soft, depends, serving, closing, barred, blocked, needed
--- service           the declared types (src/lib.rt); Limits, Settings (settingsAt, isProcess, isScripted), Records (isDown .. isUser, active,
+-- service           the declared types (src/lib.rt); Limits, Settings (strongOf, linksOf, settingsAt, isProcess, isScripted), Records (isDown .. isUser, active,
 --                   freshRecord, freshState, recordAt, withRecord), Numbers (signalAt, isQuiet, actionService, actionNumber, actionOf)
 -- base              Folds (pick, implies, fold, some, every, firstFrom, first, listed), Sets (hasBit, within), Links (Path, through, reach, cyclic)
 -- the library       lists (getD, set, length, replicate), numbers and their tests (leb, ltb, eqb, bitOr), Bool

@@ -1,13 +1,12 @@
 -- "The service record": who depends on whom, and what a service's record says to the others.
 use Prim.Native.Nat.{ℕ}
 use mathlib.Core.Bool.{Bool, not, _&&_, _||_}
-use lib.Bits.{bitOr}
 use Rattle.base.specs.Folds.{some}
 use Rattle.base.specs.Sets.{hasBit}
 use Rattle.service.specs.declared.Record.{Record}
 use Rattle.service.specs.declared.State.{State}
 use Rattle.service.specs.declared.Table.{Table}
-use Rattle.service.specs.Settings.{settingsAt}
+use Rattle.service.specs.Settings.{linksOf, settingsAt, strongOf}
 use Rattle.service.specs.Records.{recordAt, isDown, isUp, isNone, active}
 
 -- the services that s depends on: by depends-on ("hard"); by that or depends-ms; by any kind
@@ -15,10 +14,10 @@ unfoldable pub hardLinks : Table → ℕ → ℕ
 hardLinks t s = settingsAt t s .hard
 
 unfoldable pub strongLinks : Table → ℕ → ℕ
-strongLinks t s = bitOr (settingsAt t s .hard) (settingsAt t s .milestone)
+strongLinks t s = strongOf (settingsAt t s)
 
 unfoldable pub allLinks : Table → ℕ → ℕ
-allLinks t s = bitOr (bitOr (settingsAt t s .hard) (settingsAt t s .milestone)) (settingsAt t s .soft)
+allLinks t s = linksOf (settingsAt t s)
 
 -- s depends on d: hard, by depends-on or depends-ms, by waits-for, by any kind
 unfoldable pub hard : Table → ℕ → ℕ → Bool

@@ -19,7 +19,6 @@ use Rattle.service.specs.declared.Settings.{Settings}
 use Rattle.service.specs.declared.Record.{Record}
 use Rattle.service.specs.declared.State.{State}
 use Rattle.service.specs.declared.Table.{Table}
-use Rattle.service.specs.declared.Step.{Step}
 use Rattle.service.specs.Settings.{settingsAt}
 use Rattle.service.specs.Records.{recordAt, withRecord, isDown, isWaiting, isStarting, isUp, isEnding, isNone, isUser}
 use Rattle.rules.specs.declared.Rule.{Rule}
@@ -180,15 +179,19 @@ expired starting v now r = record {
   restarts = r .restarts;
 }
 
+-- from the settings, the clock and the record alone; `user` says whether rule 1 gives the cause user
+abbrev pub leftBy : Rule → Bool → Settings → ℕ → Record → Record
+leftBy Lose user v now r = withCause (pick user User Fell) r
+leftBy Abandon user v now r = abandoned r
+leftBy Settle user v now r = settled v now r
+leftBy Wake user v now r = withPhase Waiting r
+leftBy Release user v now r = released r
+leftBy Begin user v now r = begun v now r
+leftBy End user v now r = ending v now r
+leftBy Expire user v now r = expired (isStarting (r .phase)) v now r
+
 unfoldable pub leaves : Rule → Table → State → ℕ → Record
-leaves Lose t x s = withCause (pick (lostToUser t x s) User Fell) (recordAt x s)
-leaves Abandon t x s = abandoned (recordAt x s)
-leaves Settle t x s = settled (settingsAt t s) (x .clock) (recordAt x s)
-leaves Wake t x s = withPhase Waiting (recordAt x s)
-leaves Release t x s = released (recordAt x s)
-leaves Begin t x s = begun (settingsAt t s) (x .clock) (recordAt x s)
-leaves End t x s = ending (settingsAt t s) (x .clock) (recordAt x s)
-leaves Expire t x s = expired (isStarting (recordAt x s .phase)) (settingsAt t s) (x .clock) (recordAt x s)
+leaves k t x s = leftBy k (lostToUser t x s) (settingsAt t s) (x .clock) (recordAt x s)
 
 -- ---- what it hands out
 
@@ -214,17 +217,30 @@ endAction Process g s = termAction g s
 endAction Scripted g s = StopCommand s
 endAction Internal g s = Moved s
 
+-- rule 8: INT where it was starting, and else KILL
+abbrev pub expiredAction : Phase → ℕ → Action
+expiredAction p s = pick (isStarting p) (Signal s Int) (Signal s Kill)
+
+-- from the settings, the record and the service's number alone
+abbrev pub handedBy : Rule → Settings → Record → ℕ → Action
+handedBy Lose v r s = Moved s
+handedBy Abandon v r s = Moved s
+handedBy Settle v r s = Moved s
+handedBy Wake v r s = Moved s
+handedBy Release v r s = Moved s
+handedBy Begin v r s = begunAction (v .kind) s
+handedBy End v r s = endAction (v .kind) (v .signal) s
+handedBy Expire v r s = expiredAction (r .phase) s
+
 unfoldable pub hands : Rule → Table → State → ℕ → Action
-hands Lose t x s = Moved s
-hands Abandon t x s = Moved s
-hands Settle t x s = Moved s
-hands Wake t x s = Moved s
-hands Release t x s = Moved s
-hands Begin t x s = begunAction (settingsAt t s .kind) s
-hands End t x s = endAction (settingsAt t s .kind) (settingsAt t s .signal) s
-hands Expire t x s = pick (isStarting (recordAt x s .phase)) (Signal s Int) (Signal s Kill)
+hands k t x s = handedBy k (settingsAt t s) (recordAt x s) s
 
 -- ---- the next action
+
+-- an action, and the state that it leaves
+pub record Step : Type 0 where
+  pub action : Action
+  pub state : State
 
 abbrev pub rules : List Rule
 rules = Lose ∷ Abandon ∷ Settle ∷ Wake ∷ Release ∷ Begin ∷ End ∷ Expire ∷ []

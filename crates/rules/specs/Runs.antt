@@ -7,6 +7,7 @@ use Rattle.base.specs.Folds.{pick, fold, first}
 use Rattle.service.specs.declared.Deadline.{Deadline}
 use Rattle.service.specs.declared.Deadline.the-variants.{None as NoDeadline, At}
 use Rattle.service.specs.declared.Action.{Action}
+use Rattle.service.specs.declared.Record.{Record}
 use Rattle.service.specs.declared.State.{State}
 use Rattle.service.specs.declared.Table.{Table}
 use Rattle.service.specs.Records.{recordAt}
@@ -46,10 +47,10 @@ sooner NoDeadline e = e
 sooner (At d) NoDeadline = At d
 sooner (At d) (At e) = pick (leb d e) (At d) (At e)
 
+-- the earliest time so far, and one more service's "deadline or not-before .. above the clock"
+abbrev pub soonerOf : ℕ → Deadline → Record → Deadline
+soonerOf now d r = sooner (sooner d (above now (r .deadline))) (above now (At (r .«not_before»)))
+
 -- "the earliest deadline or not-before of any service above the clock, or that there is none"
 unfoldable pub earliest : Table → State → Deadline
-earliest t x =
-    fold
-    (λ d s. sooner (sooner d (above (x .clock) (recordAt x s .deadline))) (above (x .clock) (At (recordAt x s .«not_before»))))
-    NoDeadline
-    (t .count)
+earliest t x = fold (λ d s. soonerOf (x .clock) d (recordAt x s)) NoDeadline (t .count)

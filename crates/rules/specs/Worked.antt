@@ -1,40 +1,34 @@
 -- "Reader and averager, on both sides": the pair, with the calls and answers that paper 01 marks P. The statement over all that is so
 -- marked, times and values too, stands in the crate `guarantee`.
-use Prim.Native.Nat.{ℕ}
 use lib.ListN.{replicate}
 use mathlib.Core.Bool.{false, true}
 use mathlib.Core.List.{List, [], _∷_}
-use Rattle.service.specs.Settings.{defaultSettings}
+use mathlib.Core.Path.{_≡_}
+use Rattle.service.specs.Records.{freshState}
+use Rattle.service.specs.Settings.{defaultSettings, process}
 use Rattle.service.specs.declared.Action.the-variants.{Launch, Moved, Quiet, Signal}
-use Rattle.service.specs.declared.Kind.the-variants.{Process}
-use Rattle.service.specs.declared.Settings.{Settings}
 use Rattle.service.specs.declared.Signal.the-variants.{Term}
 use Rattle.service.specs.declared.State.{State}
 use Rattle.service.specs.declared.Table.{Table}
 use Rattle.rules.specs.Calls.{Answer, Call, acted, clock, done, end, next, outcome, start}
-use Rattle.rules.specs.Dependencies.{hard, soft}
 
 -- the answers to a list of calls
 unfoldable pub answers : Table → State → List Call → List Answer
 answers t x [] = []
 answers t x (c ∷ cs) = outcome t x c .answer ∷ answers t (outcome t x c .state) cs
 
--- a process with restart and a set of hard dependencies, all else by default
-abbrev pub process : ℕ → Settings
-process h = record {
-  kind = Process;
-  restart = true;
-  «has_stop» = false;
-  signal = Term;
-  delay = 2000;
-  interval = 100000;
-  limit = 3;
-  «start_timeout» = 600000;
-  «stop_timeout» = 100000;
-  hard = h;
-  milestone = 0;
-  soft = 0;
-}
+-- calls from the fresh state of a table, and the answers that they must give
+pub record Played : Type 0 where
+  pub table : Table
+  pub calls : List Call
+  pub given : List Answer
+
+abbrev pub played : Table → List Call → List Answer → Played
+played t cs as′ = record { table = t; calls = cs; given = as′ }
+
+abbrev pub AllGiven : List Played → Type 0
+AllGiven [] = Unit {0}
+AllGiven (p ∷ ps) = (answers (p .table) freshState (p .calls) ≡ p .given) × AllGiven ps
 
 -- "0 reader, process; 1 averager, process, hard on 0; both restart"
 abbrev pub pair : Table

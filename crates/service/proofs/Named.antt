@@ -1,11 +1,8 @@
--- A passed test of a phase, a cause or an action names it.
+-- A passed test of a phase or a cause names it.
 use mathlib.Core.Bool.{true}
 use mathlib.Core.Path.{_≡_, refl}
 use Rattle.base.proofs.Tests.{no-ft}
-use Rattle.service.specs.Numbers.{isQuiet}
-use Rattle.service.specs.Records.{isDown, isEnding, isStarting, isUp, isUser, isWaiting}
-use Rattle.service.specs.declared.Action.{Action}
-use Rattle.service.specs.declared.Action.the-variants.{Launch, Moved, Quiet, Signal, StopCommand}
+use Rattle.service.specs.Records.{isDown, isEnding, isUp, isUser, isWaiting}
 use Rattle.service.specs.declared.Cause.{Cause}
 use Rattle.service.specs.declared.Cause.the-variants.{Failed, Fell, None as NoCause, Released, User}
 use Rattle.service.specs.declared.Phase.{Phase}
@@ -24,13 +21,6 @@ is-waiting Waiting e = refl
 is-waiting Starting e = no-ft e
 is-waiting Up e = no-ft e
 is-waiting Ending e = no-ft e
-
-pub is-starting : (p : Phase) → isStarting p ≡ true → p ≡ Starting
-is-starting Down e = no-ft e
-is-starting Waiting e = no-ft e
-is-starting Starting e = refl
-is-starting Up e = no-ft e
-is-starting Ending e = no-ft e
 
 pub is-up : (p : Phase) → isUp p ≡ true → p ≡ Up
 is-up Down e = no-ft e
@@ -52,10 +42,3 @@ is-user User e = refl
 is-user Released e = no-ft e
 is-user Fell e = no-ft e
 is-user Failed e = no-ft e
-
-pub is-quiet : (a : Action) → isQuiet a ≡ true → a ≡ Quiet
-is-quiet Quiet e = refl
-is-quiet (Moved s) e = no-ft e
-is-quiet (Launch s) e = no-ft e
-is-quiet (StopCommand s) e = no-ft e
-is-quiet (Signal s g) e = no-ft e

@@ -1,10 +1,11 @@
 -- The records of a state after a change: of one record, and the fresh ones.
-use Prim.Native.Nat.{_<_, suc, zero, ℕ}
-use lib.ListN.{getD, length, length-set, replicate}
+use Prim.Native.Nat.{_<_, ℕ}
+use lib.ListN.{length, length-set}
 use lib.Seq.{getD-set-other, getD-set-same}
 use mathlib.Core.Logic.{_≢_}
 use mathlib.Core.Path.{_≡_, refl}
 use native.Mathlib.Decide.{ℕ-discrete}
+use Rattle.base.proofs.Lists.{copies-hold}
 use Rattle.service.specs.Limits.{maxServices}
 use Rattle.service.specs.Records.{freshRecord, freshState, recordAt, withRecord}
 use Rattle.service.specs.declared.Record.{Record}
@@ -55,14 +56,9 @@ module _ (x : State) (s : ℕ) (r : Record) (z : Sized x) (l : s < maxServices) 
       go (same q w) = rw (w, q) k
       go (other q w) = rw w (h i il q)
 
-same-everywhere : {A : Type 0} (n i : ℕ) (a : A) → getD (replicate n a) i a ≡ a
-same-everywhere zero i a = refl
-same-everywhere (suc n) zero a = refl
-same-everywhere (suc n) (suc i) a = same-everywhere n i a
-
 pub fresh-record : (i : ℕ) → recordAt freshState i ≡ freshRecord
 unfolding freshState recordAt
-fresh-record i = same-everywhere maxServices i freshRecord
+fresh-record i = copies-hold (λ r. r ≡ freshRecord) maxServices i freshRecord freshRecord refl refl
 
 pub fresh-sized : Sized freshState
 unfolding freshState

@@ -1,4 +1,4 @@
--- The limits of paper 01 that the engine keeps, each named once. Times are in units of 0.1 ms.
+-- The limits and the defaults of paper 01, each named once. Times are in units of 0.1 ms.
 use Prim.Native.Nat.{ℕ, _+_, _^_}
 
 -- 1: "more than 32 services"
@@ -20,3 +20,19 @@ lastClock = 2 ^ 48
 -- 24: "a pending time past 2^48 + 864,000,000"
 abbrev pub lastTime : ℕ
 lastTime = lastClock + longestTime
+
+-- "Defaults: restart-delay 2,000; start-timeout 600,000; stop-timeout 100,000; limit interval 100,000. Limit count: .. default 3"
+abbrev pub defaultDelay : ℕ
+defaultDelay = 2000
+
+abbrev pub defaultInterval : ℕ
+defaultInterval = 100000
+
+abbrev pub defaultLimit : ℕ
+defaultLimit = 3
+
+abbrev pub defaultStartTimeout : ℕ
+defaultStartTimeout = 600000
+
+abbrev pub defaultStopTimeout : ℕ
+defaultStopTimeout = 100000

@@ -36,7 +36,8 @@ isQuiet (Launch s) = false
 isQuiet (StopCommand s) = false
 isQuiet (Signal s g) = false
 
--- the two numbers that a run writes for an action: the service, and moved 0, launch 1, stop command 2, a signal 3 and its place
+-- the two numbers that a run writes for an action: the service, and moved 0, launch 1, stop command 2, a signal 3 and its place. A run
+-- ends before quiet, so quiet's numbers are never written
 abbrev pub actionService : Action → ℕ
 actionService Quiet = 0
 actionService (Moved s) = s

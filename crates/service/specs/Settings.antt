@@ -1,13 +1,14 @@
--- The settings of a service in a table, their defaults, and the table of no services.
+-- The settings of a service: its types, its dependencies, the defaults, and the settings in a table.
 use Prim.Native.Nat.{ℕ}
 use mathlib.Core.Bool.{Bool, true, false}
+use lib.Bits.{bitOr}
 use lib.ListN.{getD, replicate}
 use Rattle.service.specs.declared.Kind.{Kind}
 use Rattle.service.specs.declared.Kind.the-variants.{Process, Scripted, Internal}
 use Rattle.service.specs.declared.Signal.the-variants.{None as NoSignal, Term}
 use Rattle.service.specs.declared.Settings.{Settings}
 use Rattle.service.specs.declared.Table.{Table}
-use Rattle.service.specs.Limits.{maxServices}
+use Rattle.service.specs.Limits.{maxServices, defaultDelay, defaultInterval, defaultLimit, defaultStartTimeout, defaultStopTimeout}
 
 abbrev pub isProcess : Kind → Bool
 isProcess Process = true
@@ -19,22 +20,38 @@ isScripted Process = false
 isScripted Scripted = true
 isScripted Internal = false
 
--- "Defaults: .." of paper 01, for an internal service
-abbrev pub defaultSettings : Settings
-defaultSettings = record {
-  kind = Internal;
-  restart = false;
+-- the services that one depends on by depends-on or depends-ms
+abbrev pub strongOf : Settings → ℕ
+strongOf v = bitOr (v .hard) (v .milestone)
+
+-- the services that one depends on by any kind: "the three kinds together"
+abbrev pub linksOf : Settings → ℕ
+linksOf v = bitOr (bitOr (v .hard) (v .milestone)) (v .soft)
+
+-- a service with a type, restart or not, and hard dependencies; all else by default, with no commands
+abbrev pub defaultsWith : Kind → Bool → ℕ → Settings
+defaultsWith k b h = record {
+  kind = k;
+  restart = b;
   «has_stop» = false;
   signal = Term;
-  delay = 2000;
-  interval = 100000;
-  limit = 3;
-  «start_timeout» = 600000;
-  «stop_timeout» = 100000;
-  hard = 0;
+  delay = defaultDelay;
+  interval = defaultInterval;
+  limit = defaultLimit;
+  «start_timeout» = defaultStartTimeout;
+  «stop_timeout» = defaultStopTimeout;
+  hard = h;
   milestone = 0;
   soft = 0;
 }
+
+-- an internal service with no dependencies: what stands in a place that no service has
+abbrev pub defaultSettings : Settings
+defaultSettings = defaultsWith Internal false 0
+
+-- a process with restart and a set of hard dependencies, as the reader and the averager are
+abbrev pub process : ℕ → Settings
+process h = defaultsWith Process true h
 
 -- "The table beside a refusal is that of no services"
 abbrev pub noServices : Table

@@ -1,6 +1,6 @@
 // What a service is: its settings and the table of all services, its record and the state, the actions and the answers.
 ghost use mathlib.Core.Path.{_≡_};
-ghost use Rattle.service.specs.Settings.{defaultSettings, noServices};
+ghost use Rattle.service.specs.Settings.{defaultSettings, noServices, strongOf, linksOf};
 ghost use Rattle.service.specs.Records.{freshRecord, freshState};
 
 // The most services that a set may have.
@@ -15,8 +15,8 @@ pub const MAX_COUNT: u64 = 65535;
 // The last time that the clock may show, 2^48.
 pub const LAST_CLOCK: u64 = 281474976710656;
 
-// The last time that may be pending: the last clock and the longest time.
-pub const LAST_TIME: u64 = 281475840710656;
+// The last time that may be pending.
+pub const LAST_TIME: u64 = LAST_CLOCK + LONGEST_TIME;
 
 // Paper 01's types.
 pub enum Kind {
@@ -37,19 +37,31 @@ pub enum Signal {
     Kill,
 }
 
-// A service's settings. Times are in units of 0.1 ms; a dependency set has bit d for service d.
+// A service's settings, each with paper 01's property. Times are in units of 0.1 ms; a dependency set has bit d for service d.
 pub struct Settings {
+    // type
     pub kind: Kind,
+    // restart
     pub restart: bool,
+    // whether there is a stop-command
     pub has_stop: bool,
+    // term-signal
     pub signal: Signal,
+    // restart-delay
     pub delay: u64,
+    // restart-limit-interval
     pub interval: u64,
+    // restart-limit-count
     pub limit: u64,
+    // start-timeout
     pub start_timeout: u64,
+    // stop-timeout
     pub stop_timeout: u64,
+    // depends-on
     pub hard: u64,
+    // depends-ms
     pub milestone: u64,
+    // waits-for
     pub soft: u64,
 }
 
@@ -145,12 +157,6 @@ pub enum QueryAnswer {
     Refused(Refusal),
 }
 
-// The next action by the rules, and the state that it leaves.
-pub struct Step {
-    pub action: Action,
-    pub state: State,
-}
-
 // What each kind of call gives back: its answer beside the state, since an enum holds no array.
 pub struct Changed {
     pub answer: EventAnswer,
@@ -197,6 +203,20 @@ impl Settings {
             soft: 0,
         }
     }
+}
+
+// The services that one depends on by depends-on or depends-ms.
+pub fn strong_links(v: Settings) -> u64
+    ensures { λ m. ⌜ m ≡ strongOf v ⌝ }
+{
+    v.hard | v.milestone
+}
+
+// The services that one depends on by any kind.
+pub fn all_links(v: Settings) -> u64
+    ensures { λ m. ⌜ m ≡ linksOf v ⌝ }
+{
+    v.hard | v.milestone | v.soft
 }
 
 impl Table {

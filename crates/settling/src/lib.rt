@@ -1,4 +1,5 @@
-// Settling: the record of a service that has ended, by its cause, with the restart window, limit and delay.
+// Settling: the record of a service that has ended, by its cause, with the restart window, limit and delay. Beside it what other changes
+// of a record share: the test of its times, and a record with another cause, with another phase, or at rest.
 use service::Cause;
 use service::Deadline;
 use service::LAST_CLOCK;
@@ -13,7 +14,7 @@ ghost use Prim.Native.Nat.{suc, _≤_};
 ghost use Rattle.base.specs.Folds.{pick};
 ghost use Rattle.service.specs.Limits.{maxCount};
 ghost use Rattle.service.specs.declared.Cause.the-variants.{Fell};
-ghost use Rattle.rules.specs.Settling.{windowOver, settled, settledAs};
+ghost use Rattle.rules.specs.Settling.{settled, settledAs};
 ghost use Rattle.rules.specs.Events.{withCause};
 ghost use Rattle.rules.specs.Rules.{withPhase};
 ghost use Rattle.settling.specs.Sound.{sound, Sound, atRest};

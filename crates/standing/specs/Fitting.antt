@@ -1,11 +1,11 @@
 -- The tests of the rules on one service, from its settings, its record and where the services stand.
 use Prim.Native.Nat.{ℕ}
 use mathlib.Core.Bool.{Bool, not, _&&_, _||_}
-use lib.Bits.{bitOr}
 use lib.Dec.{leb}
 use Rattle.base.specs.Sets.{hasBit, overlap}
 use Rattle.service.specs.Records.{isDown, isWaiting, isStarting, isUp, isEnding, isNone}
 use Rattle.service.specs.declared.Settings.{Settings}
+use Rattle.service.specs.Settings.{strongOf}
 use Rattle.service.specs.declared.Record.{Record}
 use Rattle.rules.specs.Dependencies.{closing}
 use Rattle.rules.specs.Rules.{running, nothingToEnd, due}
@@ -16,7 +16,7 @@ abbrev pub loseBy : Settings → Record → Standing → Bool
 loseBy v r st = running r && overlap (v .hard) (st .lost)
 
 abbrev pub abandonBy : Settings → Record → Standing → Bool
-abandonBy v r st = isWaiting (r .phase) && overlap (bitOr (v .hard) (v .milestone)) (st .barred)
+abandonBy v r st = isWaiting (r .phase) && overlap (strongOf v) (st .barred)
 
 abbrev pub settleBy : Settings → Record → Standing → ℕ → Bool
 settleBy v r st s = closing r && not (hasBit (st .blocked) s) && nothingToEnd (v .kind) (v .«has_stop») (r .live)
@@ -30,7 +30,7 @@ releaseBy r st s =
 
 abbrev pub beginBy : ℕ → Settings → Record → Standing → Bool
 beginBy now v r st =
-    isWaiting (r .phase) && leb (r .«not_before») now && not (overlap (bitOr (v .hard) (v .milestone)) (st .lost))
+    isWaiting (r .phase) && leb (r .«not_before») now && not (overlap (strongOf v) (st .lost))
     && not (overlap (v .soft) (st .unready))
 
 abbrev pub endBy : Record → Standing → ℕ → Bool

@@ -5,7 +5,7 @@ use lib.Bits.{bitOr}
 use lib.Dec.{ltb}
 use Rattle.base.specs.Folds.{fold}
 use Rattle.base.specs.Sets.{single, kept}
-use Rattle.service.specs.Settings.{settingsAt}
+use Rattle.service.specs.Settings.{linksOf, settingsAt}
 use Rattle.service.specs.Records.{recordAt, isDown, isWaiting, active, isUser}
 use Rattle.service.specs.declared.Settings.{Settings}
 use Rattle.service.specs.declared.Record.{Record}
@@ -25,8 +25,8 @@ notedIn st v r i = record {
   barred = bitOr (st .barred) (single i (ltb i 64 && barred r));
   unready = bitOr (st .unready) (single i (ltb i 64 && not (serving r || barred r)));
   blocked = bitOr (st .blocked) (kept (active (r .phase)) (v .hard));
-  needed = bitOr (st .needed) (kept (not (isDown (r .phase))) (bitOr (bitOr (v .hard) (v .milestone)) (v .soft)));
-  called = bitOr (st .called) (kept (isWaiting (r .phase)) (bitOr (bitOr (v .hard) (v .milestone)) (v .soft)));
+  needed = bitOr (st .needed) (kept (not (isDown (r .phase))) (linksOf v));
+  called = bitOr (st .called) (kept (isWaiting (r .phase)) (linksOf v));
 }
 
 abbrev pub noting : Table → State → Standing → ℕ → Standing

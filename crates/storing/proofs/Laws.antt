@@ -1,4 +1,4 @@
--- The laws of one command's tokens, and of what is written past a place of the buffer.
+-- The laws of one command's tokens, and of what is written from a place of the buffer on.
 use Prim.Native.Nat.{_+_, _-_, _≤_, suc, suc-le-suc, zero-le, ℕ}
 use borrow.Author.Tests.{eq-eqb, ne-eqb}
 use lib.Dec.{eqb}
@@ -87,6 +87,11 @@ command-short text at = by (eqb at 0)
         omega (arith, a, b)
 
 -- ---- what is written from the place o on
+
+-- two runs of stores, one after the other
+pub sets-append : (d : List ℕ) (a : ℕ) (xs ys : List ℕ) → sets d a (xs ++ ys) ≡ sets (sets d a xs) (a + length xs) ys
+sets-append d a [] ys = rw (add-zero a)
+sets-append d a (x ∷ xs) ys = sets-append (set d a x) (suc a) xs ys ∙ rw (add-suc a (length xs), suc-add a (length xs))
 
 sets-out : (d : List ℕ) (o : ℕ) (vs : List ℕ) → length d ≤ o → sets d o vs ≡ d
 sets-out d o [] h = refl

@@ -14,9 +14,18 @@ pub struct Tokens {
     pub count: usize,
 }
 
+// Where those of a service's command and stop-command are.
 pub struct Commands {
     pub start: Tokens,
     pub stop: Tokens,
+}
+
+impl Commands {
+    // Those of a service that has neither.
+    pub const NONE: Commands = Commands {
+        start: Tokens { at: 0, count: 0 },
+        stop: Tokens { at: 0, count: 0 },
+    };
 }
 
 // How many tokens the command has whose value begins at an offset of a text. At 0 there is no command.
@@ -43,14 +52,14 @@ pub fn command_room(text: &[u8], at: usize) -> usize
     write_value(value_at(text, at), &mut least)
 }
 
-// Writes its tokens from the place o of the buffer on. What does not fit is dropped.
-pub fn write_command(text: &[u8], at: usize, buffer: &mut [u8], o: usize)
-    ensures { λ _. ⌜ now (buffer .exit) ≡ sets (now (buffer .entry)) o (commandBytes (now (text .entry)) at) ⌝ }
+// Writes its tokens from a place of the buffer on. What does not fit is dropped.
+pub fn write_command(text: &[u8], at: usize, buffer: &mut [u8], place: usize)
+    ensures { λ _. ⌜ now (buffer .exit) ≡ sets (now (buffer .entry)) place (commandBytes (now (text .entry)) at) ⌝ }
 {
     if at == 0 {
         return;
     }
-    if o <= buffer.len() {
-        write_value(value_at(text, at), &mut buffer[o..]);
+    if place <= buffer.len() {
+        write_value(value_at(text, at), &mut buffer[place..]);
     }
 }

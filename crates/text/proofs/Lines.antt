@@ -4,11 +4,11 @@ use mathlib.Core.List.{List, [], _∷_}
 use mathlib.Core.Bool.{Bool, true, false, _||_}
 use Prim.Native.Nat.{ℕ, suc, _+_, _-_, _≤_, _<_, zero-le, suc-le-suc}
 use native.Mathlib.Nat.{not-suc-le-zero, add-zero}
-use native.Mathlib.Numerals.{add-one}
 use native.Mathlib.Omega.{arith}
 use lib.Dec.{eqb, leb}
 use lib.ListN.{length, getD, take, drop, drop-of-length-le, length-drop, List·getD-eq-default}
-use lib.Seq.{drop-cons, drop-drop}
+use lib.Seq.{drop-drop}
+use Rattle.base.proofs.Counting.{drop-more}
 use borrow.Author.Tests.{le-leb, leb-true, leb-false}
 use Rattle.base.proofs.Tests.{no-ft}
 use Rattle.base.specs.Folds.{pick}
@@ -26,7 +26,7 @@ module _ (s : List ℕ) (k : ℕ) where
 
   pub line-more : {t : Bool} → k < length s → isNewline (getD s k 0) ≡ t → lineOf (drop k s) ≡ pick t [] (getD s k 0 ∷ lineOf (drop (k + 1) s))
   unfolding lineOf
-  line-more h e = rw (add-one k, drop-cons s k 0 h, e)
+  line-more h e = rw (drop-more s k 0 h, e)
 
 pub line-take : (l : List ℕ) → take (length (lineOf l)) l ≡ lineOf l
 unfolding lineOf

@@ -3,10 +3,9 @@ use mathlib.Core.Path.{_≡_, ap}
 use mathlib.Core.List.{List, [], _∷_}
 use mathlib.Core.Bool.{Bool, true, false}
 use Prim.Native.Nat.{ℕ, suc, _+_, _≤_, _<_, zero-le, suc-le-suc}
-use native.Mathlib.Numerals.{add-one}
 use native.Mathlib.Omega.{arith}
 use lib.ListN.{length, getD, drop, drop-of-length-le, length-drop}
-use lib.Seq.{drop-cons}
+use Rattle.base.proofs.Counting.{drop-more}
 use Rattle.base.specs.Folds.{pick}
 use Rattle.text.specs.Bytes.{isBad, isNewline, run}
 use Rattle.text.specs.Lines.{fault, badFrom, lineFrom}
@@ -19,7 +18,7 @@ module _ (p : ℕ → Bool) (s : List ℕ) (k : ℕ) where
 
   pub run-next : {t : Bool} → k < length s → p (getD s k 0) ≡ t → run p (drop k s) ≡ pick t (suc (run p (drop (k + 1) s))) 0
   unfolding run
-  run-next h e = rw (add-one k, drop-cons s k 0 h, e)
+  run-next h e = rw (drop-more s k 0 h, e)
 
 pub run-fits : (p : ℕ → Bool) (l : List ℕ) → run p l ≤ length l
 unfolding run
@@ -42,7 +41,7 @@ module _ (i : ℕ) (s : List ℕ) (k : ℕ) where
   pub bad-next : {t : Bool} → k < length s → isBad (getD s k 0) ≡ t
       → badFrom i (drop k s) ≡ pick t (Bad (fault 6 i)) (badFrom (i + 1) (drop (k + 1) s))
   unfolding badFrom
-  bad-next h e = rw (add-one k, drop-cons s k 0 h, e)
+  bad-next h e = rw (drop-more s k 0 h, e)
 
 module _ (n : ℕ) (s : List ℕ) (k : ℕ) where
   pub line-end : length s ≤ k → lineFrom n (drop k s) ≡ n
@@ -52,4 +51,4 @@ module _ (n : ℕ) (s : List ℕ) (k : ℕ) where
   pub line-next : {t : Bool} → k < length s → isNewline (getD s k 0) ≡ t
       → lineFrom n (drop k s) ≡ lineFrom (pick t (n + 1) n) (drop (k + 1) s)
   unfolding lineFrom
-  line-next h e = rw (add-one k, drop-cons s k 0 h) (ap (λ (x : Bool). lineFrom (pick x (n + 1) n) (drop (suc k) s)) e)
+  line-next h e = rw (drop-more s k 0 h) (ap (λ (x : Bool). lineFrom (pick x (n + 1) n) (drop (k + 1) s)) e)

@@ -4,11 +4,11 @@ use denote.Ref.{RefT, now}
 use mathlib.Core.List.{List, [], _∷_, map}
 use mathlib.Core.Bool.{Bool, true, false, _&&_}
 use Prim.Native.Nat.{ℕ, zero, suc, _+_, _≤_, _<_}
-use native.Mathlib.Numerals.{add-one}
 use native.Mathlib.Nat.{not-suc-le-zero, le-of-suc-le-suc}
 use lib.Dec.{eqb}
 use lib.ListN.{length, getD, drop, drop-of-length-le, List·getD-map, length-map}
-use lib.Seq.{drop-cons}
+use Rattle.base.proofs.Counting.{drop-more}
+use Rattle.base.proofs.Tests.{and-none}
 use Rattle.base.specs.Folds.{pick}
 use Rattle.text.specs.Strings.{same, indexFrom}
 
@@ -18,11 +18,7 @@ unfolding same
 same-long [] [] h = absurd (h refl)
 same-long [] (y ∷ b) h = refl
 same-long (x ∷ a) [] h = refl
-same-long (x ∷ a) (y ∷ b) h = both (eqb x y) (same-long a b (λ e. h (ap suc e)))
-  where
-    both : (t : Bool) {u : Bool} → u ≡ false → (t && u) ≡ false
-    both true e = e
-    both false e = refl
+same-long (x ∷ a) (y ∷ b) h = rw (same-long a b (λ e. h (ap suc e))) (and-none (eqb x y))
 
 module _ (a b : List ℕ) (k : ℕ) where
   pub same-end : length a ≤ k → length b ≤ k → same (drop k a) (drop k b) ≡ true
@@ -32,7 +28,7 @@ module _ (a b : List ℕ) (k : ℕ) where
   pub same-next : {t : Bool} → k < length a → k < length b → eqb (getD a k 0) (getD b k 0) ≡ t
       → same (drop k a) (drop k b) ≡ t && same (drop (k + 1) a) (drop (k + 1) b)
   unfolding same
-  same-next h l e = rw (add-one k, drop-cons a k 0 h, drop-cons b k 0 l, e)
+  same-next h l e = rw (drop-more a k 0 h, drop-more b k 0 l, e)
 
 module _ (n : List ℕ) (i : ℕ) (ts : List (List ℕ)) (k : ℕ) where
   pub index-end : length ts ≤ k → indexFrom n i (drop k ts) ≡ i
@@ -42,7 +38,7 @@ module _ (n : List ℕ) (i : ℕ) (ts : List (List ℕ)) (k : ℕ) where
   pub index-next : {t : Bool} → k < length ts → same n (getD ts k []) ≡ t
       → indexFrom n i (drop k ts) ≡ pick t i (indexFrom n (i + 1) (drop (k + 1) ts))
   unfolding indexFrom
-  index-next h e = rw (add-one k, drop-cons ts k [] h, e)
+  index-next h e = rw (drop-more ts k [] h, e)
 
 -- within a list, what getD gives past its end does not matter
 pub getD-default : {A : Type 0} (l : List A) (k : ℕ) (d e : A) → k < length l → getD l k d ≡ getD l k e

@@ -38,13 +38,13 @@ pub fn is_white(b: u8) -> bool
     (b == 32) | (b == 9) | ((11 <= b) & (b <= 13))
 }
 
-pub fn is_bad(b: u8) -> bool
+fn is_bad(b: u8) -> bool
     ensures { λ r. ⌜ r ≡ isBad b ⌝ }
 {
     (b < 9) | ((13 < b) & (b < 32)) | (b == 127)
 }
 
-pub fn is_property_byte(b: u8) -> bool
+fn is_property_byte(b: u8) -> bool
     ensures { λ r. ⌜ r ≡ isPropertyByte b ⌝ }
 {
     ((97 <= b) & (b <= 122)) | (b == 45) | (b == 46)
@@ -67,7 +67,7 @@ pub fn is_digit(b: u8) -> bool
     (48 <= b) & (b <= 57)
 }
 
-pub fn is_sign(b: u8) -> bool
+fn is_sign(b: u8) -> bool
     ensures { λ r. ⌜ r ≡ isSign b ⌝ }
 {
     (b == 61) | (b == 58)
@@ -92,29 +92,29 @@ pub fn same_bytes(a: &[u8], b: &[u8]) -> bool
     true
 }
 
-// The bytes from a to e, or none where they are not there.
-pub fn part(l: &[u8], a: usize, e: usize) -> &[u8]
-    ensures { λ r. ⌜ now r ≡ partOf (now (l .entry)) a e ⌝ }
+// The bytes between two places, or none where they are not there.
+pub fn part(s: &[u8], from: usize, to: usize) -> &[u8]
+    ensures { λ r. ⌜ now r ≡ partOf (now (s .entry)) from to ⌝ }
 {
-    if a <= e {
-        if e <= l.len() { &l[a..e] } else { &l[..0] }
+    if from <= to {
+        if to <= s.len() { &s[from..to] } else { &s[..0] }
     } else {
-        &l[..0]
+        &s[..0]
     }
 }
 
-// The bytes from a on, or none past the end.
-pub fn tail(l: &[u8], a: usize) -> &[u8]
-    ensures { λ r. ⌜ now r ≡ drop a (now (l .entry)) ⌝ }
+// The bytes from a place on, or none past the end.
+pub fn tail(s: &[u8], from: usize) -> &[u8]
+    ensures { λ r. ⌜ now r ≡ drop from (now (s .entry)) ⌝ }
 {
-    if a <= l.len() { &l[a..] } else { &l[..0] }
+    if from <= s.len() { &s[from..] } else { &s[..0] }
 }
 
 // The byte at i, or 0 past the end.
-pub fn byte_at(l: &[u8], i: usize) -> u8
-    ensures { λ r. ⌜ r ≡ getD (now (l .entry)) i 0 ⌝ }
+pub fn byte_at(s: &[u8], i: usize) -> u8
+    ensures { λ r. ⌜ r ≡ getD (now (s .entry)) i 0 ⌝ }
 {
-    if i < l.len() { l[i] } else { 0 }
+    if i < s.len() { s[i] } else { 0 }
 }
 
 // Where the line that begins at i ends.
@@ -151,7 +151,7 @@ pub fn white_end(s: &[u8], i: usize) -> usize
 }
 
 // Where the property name that begins at i ends.
-pub fn name_end(s: &[u8], i: usize) -> usize
+fn name_end(s: &[u8], i: usize) -> usize
     ensures { λ r. ⌜ r ≡ nameEnd (now (s .entry)) i ⌝ }
 {
     let mut e = i;
@@ -167,7 +167,8 @@ pub fn name_end(s: &[u8], i: usize) -> usize
     e
 }
 
-// The first bad byte.
+// The first bad byte. Paper 01 asks for the nested walk over lines and bytes, left from inside by a label: "The first bad byte of the first
+// bad line decides".
 pub fn first_bad(s: &[u8]) -> Verdict
     ensures { λ r. ⌜ r ≡ badFrom 0 (now (s .entry)) ⌝ }
 {

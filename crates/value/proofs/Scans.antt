@@ -3,11 +3,10 @@ use mathlib.Core.Path.{_≡_, refl, subst}
 use mathlib.Core.Bool.{Bool, true, false}
 use mathlib.Core.List.{List, [], _∷_, map}
 use Prim.Native.Nat.{ℕ, zero, suc, _+_, _-_, _≤_, _<_, zero-le, suc-le-suc}
-use native.Mathlib.Numerals.{add-one}
 use native.Mathlib.Omega.{arith}
 use lib.Dec.{eqb}
 use lib.ListN.{length, getD, drop, drop-of-length-le}
-use lib.Seq.{drop-cons}
+use Rattle.base.proofs.Counting.{drop-more, one-left}
 use Rattle.base.specs.Folds.{pick}
 use native.Mathlib.Nat.{zero-add}
 use Rattle.text.specs.Lines.{fault}
@@ -20,7 +19,7 @@ use Rattle.value.specs.declared.Sizes.{Sizes}
 use Rattle.value.specs.declared.Scan.{Scan}
 use Rattle.value.specs.declared.Scan.the-variants.{Tokens, Bad as BadValue}
 use Rattle.value.specs.Steps.{between, stepOf}
-use Rattle.value.specs.Values.{Mark, kept, close, ended, onward, faultFrom, marked, marksFrom, byteOf, counted, noSizes, sizesFrom, scanned, scanOf, leading, wordOf}
+use Rattle.value.specs.Values.{Mark, kept, close, ended, onward, faultFrom, marked, marksFrom, byteOf, counted, noSizes, sizesFrom, scanned, scanOf, longestWord, wordRoom, leading, wordOf}
 
 -- the answer for what is left, from the mode, the last quote, the place and the sizes so far
 abbrev pub scanFrom : Mode → ℕ → ℕ → Sizes → List ℕ → Scan
@@ -45,9 +44,9 @@ module _ (m : Mode) (q i : ℕ) (z : Sizes) (s : List ℕ) (k : ℕ) where
 
   pub scan-next : {r : Step} → k < length s → stepOf m (getD s k 0) ≡ r → scanFrom m q i z (drop k s) ≡ scanOn r q i z (drop (k + 1) s)
   unfolding faultFrom marksFrom sizesFrom
-  scan-next {r} h e = rw (add-one k, drop-cons s k 0 h, e) (by r)
+  scan-next {r} h e = rw (drop-more s k 0 h, e) (by r)
     where
-      by : (r : Step) → scanned (onward r q i (λ m′ q′. faultFrom m′ q′ (i + 1) (drop (suc k) s))) (sizesFrom z (marked r (getD s k 0) (λ m′. marksFrom m′ (drop (suc k) s)))) ≡ scanOn r q i z (drop (suc k) s)
+      by : (r : Step) → scanned (onward r q i (λ m′ q′. faultFrom m′ q′ (i + 1) (drop (k + 1) s))) (sizesFrom z (marked r (getD s k 0) (λ m′. marksFrom m′ (drop (k + 1) s)))) ≡ scanOn r q i z (drop (k + 1) s)
       by (Skip n) = refl
       by (Quote n) = refl
       by (Keep n) = refl
@@ -76,9 +75,9 @@ module _ (m : Mode) (s : List ℕ) (k : ℕ) where
 
   pub written-next : {r : Step} → k < length s → stepOf m (getD s k 0) ≡ r → writtenFrom m (drop k s) ≡ writtenOn r (getD s k 0) (drop (k + 1) s)
   unfolding marksFrom
-  written-next {r} h e = rw (add-one k, drop-cons s k 0 h, e) (by r)
+  written-next {r} h e = rw (drop-more s k 0 h, e) (by r)
     where
-      by : (r : Step) → map byteOf (marked r (getD s k 0) (λ m′. marksFrom m′ (drop (suc k) s))) ≡ writtenOn r (getD s k 0) (drop (suc k) s)
+      by : (r : Step) → map byteOf (marked r (getD s k 0) (λ m′. marksFrom m′ (drop (k + 1) s))) ≡ writtenOn r (getD s k 0) (drop (k + 1) s)
       by (Skip n) = refl
       by (Quote n) = refl
       by (Keep n) = refl
@@ -118,12 +117,12 @@ fits-end {z} h e =
 
 -- what is left of a word of which o bytes were read
 abbrev pub wordFrom : Mode → ℕ → List ℕ → List ℕ
-wordFrom m o l = leading (33 - o) (marksFrom m l)
+wordFrom m o l = leading (wordRoom - o) (marksFrom m l)
 
 abbrev pub wordOn : Step → ℕ → ℕ → List ℕ → List ℕ
 wordOn (Skip m) o b l = wordFrom m o l
 wordOn (Quote m) o b l = wordFrom m o l
-wordOn (Keep m) o b l = leading (33 - o) (kept b ∷ marksFrom m l)
+wordOn (Keep m) o b l = leading (wordRoom - o) (kept b ∷ marksFrom m l)
 wordOn (Close m) o b l = []
 wordOn Malformed o b l = []
 
@@ -138,38 +137,36 @@ leading-none zero = refl
 leading-none (suc n) = refl
 
 -- a word of full length ends
-pub word-full : (o : ℕ) (ks : List Mark) → 32 < o → leading (33 - o) ks ≡ []
+pub word-full : (o : ℕ) (ks : List Mark) → longestWord < o → leading (wordRoom - o) ks ≡ []
 unfolding leading
 word-full o ks h =
-    let e : 33 - o ≡ 0 = omega arith in
+    let e : wordRoom - o ≡ 0 = omega arith in
     rw e
 
 -- any other goes on
-pub word-more : (o b : ℕ) (ks : List Mark) → o ≤ 32 → leading (33 - o) (kept b ∷ ks) ≡ b ∷ leading (33 - (o + 1)) ks
+pub word-more : (o b : ℕ) (ks : List Mark) → o ≤ longestWord → leading (wordRoom - o) (kept b ∷ ks) ≡ b ∷ leading (wordRoom - (o + 1)) ks
 unfolding leading
-word-more o b ks h =
-    let e : 33 - o ≡ suc (33 - (o + 1)) = omega arith in
-    rw e
+word-more o b ks h = rw (one-left wordRoom o (omega arith))
 
 module _ (m : Mode) (o : ℕ) (s : List ℕ) (k : ℕ) where
   pub word-end : length s ≤ k → wordFrom m o (drop k s) ≡ []
   unfolding marksFrom
   word-end h = rw (drop-of-length-le s h) (by (m .token))
     where
-      by : (t : Bool) → leading (33 - o) (pick t (close ∷ []) []) ≡ []
-      by true = leading-close (33 - o) []
-      by false = leading-none (33 - o)
+      by : (t : Bool) → leading (wordRoom - o) (pick t (close ∷ []) []) ≡ []
+      by true = leading-close (wordRoom - o) []
+      by false = leading-none (wordRoom - o)
 
   pub word-next : {r : Step} → k < length s → stepOf m (getD s k 0) ≡ r → wordFrom m o (drop k s) ≡ wordOn r o (getD s k 0) (drop (k + 1) s)
   unfolding marksFrom
-  word-next {r} h e = rw (add-one k, drop-cons s k 0 h, e) (by r)
+  word-next {r} h e = rw (drop-more s k 0 h, e) (by r)
     where
-      by : (r : Step) → leading (33 - o) (marked r (getD s k 0) (λ m′. marksFrom m′ (drop (suc k) s))) ≡ wordOn r o (getD s k 0) (drop (suc k) s)
+      by : (r : Step) → leading (wordRoom - o) (marked r (getD s k 0) (λ m′. marksFrom m′ (drop (k + 1) s))) ≡ wordOn r o (getD s k 0) (drop (k + 1) s)
       by (Skip n) = refl
       by (Quote n) = refl
       by (Keep n) = refl
-      by (Close n) = leading-close (33 - o) (marksFrom n (drop (suc k) s))
-      by Malformed = leading-none (33 - o)
+      by (Close n) = leading-close (wordRoom - o) (marksFrom n (drop (k + 1) s))
+      by Malformed = leading-none (wordRoom - o)
 
 leading-fits : (n : ℕ) (ks : List Mark) → length (leading n ks) ≤ n
 unfolding leading
@@ -178,10 +175,10 @@ leading-fits (suc n) [] = zero-le
 leading-fits (suc n) (kept b ∷ ks) = suc-le-suc (leading-fits n ks)
 leading-fits (suc n) (close ∷ ks) = zero-le
 
--- a word takes at most 33 bytes
-pub word-fits : (l : List ℕ) → length (wordOf l) ≤ 33
+-- a word fits its room
+pub word-fits : (l : List ℕ) → length (wordOf l) ≤ wordRoom
 unfolding wordOf
-word-fits l = leading-fits 33 (marksFrom between l)
+word-fits l = leading-fits wordRoom (marksFrom between l)
 
 -- a fault is met within n bytes
 abbrev pub FaultInside : ℕ → Verdict → Type 0

@@ -1,16 +1,17 @@
--- What a loop that writes has still to write: E from `a` into d₀ is the same as F from o into d.
+-- What a loop that writes has still to write, and what was stored at the start read back.
 use mathlib.Core.Path.{_≡_, refl, sym, ap, _∙_}
 use mathlib.Core.List.{List, [], _∷_, _++_}
-use Prim.Native.Nat.{ℕ, suc, _+_, _≤_}
+use Prim.Native.Nat.{ℕ, _+_, _≤_}
 use native.Mathlib.Numerals.{add-one}
-use native.Mathlib.Nat.{add-zero, zero-add, add-suc, suc-add, sub-zero}
+use native.Mathlib.Nat.{add-zero, zero-add, sub-zero}
 use native.Mathlib.Omega.{arith}
-use lib.ListN.{length, drop, set, length-set}
+use lib.ListN.{length, drop, length-set}
 use lib.Seq.{sets, sets-eq, length-sets, take-append-seam}
 use borrow.Author.Tests.{le-leb}
 use Rattle.text.specs.Strings.{partOf}
 use Rattle.value.specs.Stores.{Put, Puts}
 
+-- to write E from `a` into d₀ is to write F from o into d
 pub record Left (d₀ : List ℕ) (a : ℕ) (E d : List ℕ) (o : ℕ) (F : List ℕ) : Type 0 where
   pub stores : sets d₀ a E ≡ sets d o F
   pub places : a + length E ≡ o + length F
@@ -35,11 +36,6 @@ stored {d = d} {o} {b} {F} w p = record {
 -- nothing is left
 pub ends : {d₀ : List ℕ} {a : ℕ} {E d : List ℕ} {o : ℕ} → Left d₀ a E d o [] → Puts d₀ a E d o
 ends {o = o} w = record { buffer = sym (w .stores); next = sym (w .places ∙ add-zero o) }
-
--- two runs of stores, one after the other
-pub sets-append : (d : List ℕ) (a : ℕ) (xs ys : List ℕ) → sets d a (xs ++ ys) ≡ sets (sets d a xs) (a + length xs) ys
-sets-append d a [] ys = rw (add-zero a)
-sets-append d a (x ∷ xs) ys = sets-append (set d a x) (suc a) xs ys ∙ rw (add-suc a (length xs), suc-add a (length xs))
 
 -- what was stored at the start stands there
 pub puts-part : {d vs d′ : List ℕ} {r : ℕ} → length vs ≤ length d → Puts d 0 vs d′ r → partOf d′ 0 r ≡ vs

@@ -61,6 +61,17 @@ byteOf close = 0
 unfoldable pub written : List ℕ → List ℕ
 written l = map byteOf (marksFrom between l)
 
+-- "a run of white space becomes one space; leading and trailing runs go": the tokens with one space between
+unfoldable pub joined : List Mark → List ℕ
+joined [] = []
+joined (kept b ∷ ks) = b ∷ joined ks
+joined (close ∷ []) = []
+joined (close ∷ k ∷ ks) = 32 ∷ joined (k ∷ ks)
+
+-- the value as a string of bytes
+unfoldable pub spaced : List ℕ → List ℕ
+spaced l = joined (marksFrom between l)
+
 -- ---- what is told of the tokens
 
 abbrev pub noSizes : Sizes
@@ -91,6 +102,10 @@ isCommand z = ltb 0 (z .first)
 abbrev pub longestWord : ℕ
 longestWord = 32
 
+-- the room that a word is given
+abbrev pub wordRoom : ℕ
+wordRoom = longestWord + 1
+
 -- exactly one token, of 1 to 32 bytes
 abbrev pub isWord : Sizes → Bool
 isWord z = eqb (z .tokens) 1 && ltb 0 (z .first) && leb (z .first) longestWord
@@ -102,6 +117,6 @@ leading (suc n) [] = []
 leading (suc n) (kept b ∷ ks) = b ∷ leading n ks
 leading (suc n) (close ∷ ks) = []
 
--- the word that a value begins with: its first token, or the first 33 bytes of one that is too long for a word
+-- the word that a value begins with: its first token, or as much of one that is too long for a word as the room holds
 unfoldable pub wordOf : List ℕ → List ℕ
-wordOf l = leading (suc longestWord) (marksFrom between l)
+wordOf l = leading wordRoom (marksFrom between l)

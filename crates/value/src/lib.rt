@@ -5,10 +5,14 @@ ghost use mathlib.Core.Path.{_≡_};
 ghost use Prim.Native.Nat.{_-_, _<_, _≤_};
 ghost use Rattle.value.specs.Steps.{bareStep, quoteStep, stepOf};
 ghost use Rattle.value.specs.Stores.{Put, Puts};
-ghost use Rattle.value.specs.Values.{kept, close, counted, scanOf, written, wordOf};
+ghost use Rattle.base.specs.Folds.{pick};
+ghost use Rattle.value.specs.Values.{kept, close, counted, ended, scanned, scanOf, written, wordOf};
 
 // The longest value that a property which is no command can have.
 pub const LONGEST_WORD: usize = 32;
+
+// The room that a word is given: a byte more, so that one that is too long is told from a name.
+pub const WORD_ROOM: usize = LONGEST_WORD + 1;
 
 // Where the reader of a value is: after a backslash, in quotes, in a token, in a comment.
 pub struct Mode {
@@ -16,6 +20,16 @@ pub struct Mode {
     pub quoted: bool,
     pub token: bool,
     pub comment: bool,
+}
+
+impl Mode {
+    // How a value begins, and where white space leaves it: no token is open.
+    const BETWEEN: Mode = Mode {
+        escaped: false,
+        quoted: false,
+        token: false,
+        comment: false,
+    };
 }
 
 // What a byte does, with the next mode: nothing more, open a quoted stretch, be kept, or end a token; or it is malformed.
@@ -41,18 +55,13 @@ pub enum Scan {
 }
 
 // A byte outside quotes that is neither escaped nor a backslash nor a quote.
-pub fn bare_step(m: Mode, b: u8) -> Step
+fn bare_step(m: Mode, b: u8) -> Step
     ensures { λ r. ⌜ r ≡ bareStep m b ⌝ }
 {
     let white = is_white(b);
     let hash = b == 35;
     if white {
-        let between = Mode {
-            escaped: false,
-            quoted: false,
-            token: false,
-            comment: false,
-        };
+        let between = Mode::BETWEEN;
         if m.token {
             return Step::Close(between);
         }
@@ -77,7 +86,7 @@ pub fn bare_step(m: Mode, b: u8) -> Step
     })
 }
 
-pub fn quote_step(m: Mode) -> Step
+fn quote_step(m: Mode) -> Step
     ensures { λ r. ⌜ r ≡ quoteStep m ⌝ }
 {
     // A closing quote leaves the token open.
@@ -95,7 +104,7 @@ pub fn quote_step(m: Mode) -> Step
 }
 
 // What a byte of a value does.
-pub fn step_at(m: Mode, b: u8) -> Step
+fn step_at(m: Mode, b: u8) -> Step
     ensures { λ r. ⌜ r ≡ stepOf m b ⌝ }
 {
     let slash = b == 92;
@@ -169,16 +178,37 @@ fn before(i: usize) -> usize
     if 0 < i { i - 1 } else { 0 }
 }
 
+// What a value is that ends in a mode, at a place, with its last quote and its sizes so far. A last backslash comes before an open quote.
+fn ended(m: Mode, quote: usize, end: usize, z: Sizes) -> Scan
+    requires { ⌜ (z .room < 9223372036854775808) × (z .tokens ≤ z .room) ⌝ }
+    ensures { λ r. ⌜ r ≡ scanned (ended m quote end) (pick (m .token) (counted z close) z) ⌝ }
+{
+    let escaped = m.escaped;
+    let quoted = m.quoted;
+    let cut = escaped;
+    if cut {
+        return Scan::Bad(Fault {
+            number: 9,
+            at: before(end),
+        });
+    }
+    if quoted {
+        return Scan::Bad(Fault {
+            number: 8,
+            at: quote,
+        });
+    }
+    if m.token {
+        return Scan::Tokens(with_end(z));
+    }
+    Scan::Tokens(z)
+}
+
 // What a value is: its tokens, or its first fault.
 pub fn scan_value(s: &[u8]) -> Scan
     ensures { λ r. ⌜ r ≡ scanOf (now (s .entry)) ⌝ }
 {
-    let mut m = Mode {
-        escaped: false,
-        quoted: false,
-        token: false,
-        comment: false,
-    };
+    let mut m = Mode::BETWEEN;
     let mut z = Sizes {
         tokens: 0,
         room: 0,
@@ -211,51 +241,27 @@ pub fn scan_value(s: &[u8]) -> Scan
         }
         i = after;
     }
-    // A last backslash comes before an open quote.
-    let escaped = m.escaped;
-    let quoted = m.quoted;
-    let cut = escaped;
-    if cut {
-        return Scan::Bad(Fault {
-            number: 9,
-            at: before(i),
-        });
-    }
-    if quoted {
-        return Scan::Bad(Fault {
-            number: 8,
-            at: quote,
-        });
-    }
-    if m.token {
-        return Scan::Tokens(with_end(z));
-    }
-    Scan::Tokens(z)
+    ended(m, quote, i, z)
 }
 
 // Stores a byte where there is room, and returns the next place.
-fn put(dst: &mut [u8], at: usize, b: u8) -> usize
+fn put(buffer: &mut [u8], at: usize, b: u8) -> usize
     requires { ⌜ at < 9223372036854775808 ⌝ }
-    ensures { λ r. ⌜ Put (now (dst .entry)) at b (now (dst .exit)) r ⌝ }
+    ensures { λ r. ⌜ Put (now (buffer .entry)) at b (now (buffer .exit)) r ⌝ }
 {
     let next = at + 1;
-    if at < dst.len() {
-        dst[at] = b;
+    if at < buffer.len() {
+        buffer[at] = b;
     }
     next
 }
 
-// Writes a value's tokens from the start of dst, each followed by a zero byte, and returns the place past them. What does
+// Writes a value's tokens from the start of buffer, each followed by a zero byte, and returns the place past them. What does
 // not fit is dropped.
-pub fn write_value(s: &[u8], dst: &mut [u8]) -> usize
-    ensures { λ r. ⌜ Puts (now (dst .entry)) 0 (written (now (s .entry))) (now (dst .exit)) r ⌝ }
+pub fn write_value(s: &[u8], buffer: &mut [u8]) -> usize
+    ensures { λ r. ⌜ Puts (now (buffer .entry)) 0 (written (now (s .entry))) (now (buffer .exit)) r ⌝ }
 {
-    let mut m = Mode {
-        escaped: false,
-        quoted: false,
-        token: false,
-        comment: false,
-    };
+    let mut m = Mode::BETWEEN;
     let mut o: usize = 0;
     let mut i: usize = 0;
     while i < s.len() {
@@ -269,11 +275,11 @@ pub fn write_value(s: &[u8], dst: &mut [u8]) -> usize
                 m = k;
             }
             Step::Keep(k) => {
-                o = put(dst, o, b);
+                o = put(buffer, o, b);
                 m = k;
             }
             Step::Close(k) => {
-                o = put(dst, o, 0);
+                o = put(buffer, o, 0);
                 m = k;
             }
             Step::Malformed => {
@@ -283,21 +289,16 @@ pub fn write_value(s: &[u8], dst: &mut [u8]) -> usize
         i = after;
     }
     if m.token {
-        return put(dst, o, 0);
+        return put(buffer, o, 0);
     }
     o
 }
 
-// Writes the word that a value begins with from the start of dst, and returns its length. What does not fit is dropped.
-pub fn write_word(s: &[u8], dst: &mut [u8]) -> usize
-    ensures { λ r. ⌜ Puts (now (dst .entry)) 0 (wordOf (now (s .entry))) (now (dst .exit)) r ⌝ }
+// Writes the word that a value begins with from the start of buffer, and returns its length. What does not fit is dropped.
+pub fn write_word(s: &[u8], buffer: &mut [u8]) -> usize
+    ensures { λ r. ⌜ Puts (now (buffer .entry)) 0 (wordOf (now (s .entry))) (now (buffer .exit)) r ⌝ }
 {
-    let mut m = Mode {
-        escaped: false,
-        quoted: false,
-        token: false,
-        comment: false,
-    };
+    let mut m = Mode::BETWEEN;
     let mut o: usize = 0;
     let mut i: usize = 0;
     while i < s.len() {
@@ -314,7 +315,7 @@ pub fn write_word(s: &[u8], dst: &mut [u8]) -> usize
                 if LONGEST_WORD < o {
                     return o;
                 }
-                o = put(dst, o, b);
+                o = put(buffer, o, b);
                 m = k;
             }
             Step::Close(k) => {

@@ -2,7 +2,6 @@
 use base::is_within;
 use reach::has_cycle;
 use reach::reach_of;
-use record_tests::all_links;
 use record_tests::is_none;
 use record_tests::is_process;
 use record_tests::is_scripted;
@@ -19,16 +18,15 @@ use service::Record;
 use service::Settings;
 use service::State;
 use service::Table;
+use service::all_links;
 ghost use mathlib.Core.Path.{_≡_};
 ghost use mathlib.Core.Bool.{_&&_};
 ghost use Prim.Native.Nat.{_≤_};
 ghost use lib.Dec.{leb, ltb};
-ghost use Rattle.base.specs.Folds.{pick, implies, every};
+ghost use Rattle.base.specs.Folds.{pick, implies};
 ghost use Rattle.base.specs.Links.{reach};
 ghost use Rattle.base.proofs.Filled.{Filled};
 ghost use Rattle.service.specs.Limits.{maxServices};
-ghost use Rattle.service.specs.Settings.{settingsAt};
-ghost use Rattle.service.specs.Records.{recordAt};
 ghost use Rattle.rules.specs.Dependencies.{allLinks};
 ghost use Rattle.rules.specs.WellFormed.{linksInside, settingsInRange, deadlineInRange, timesInRange, shaped, formed};
 ghost use Rattle.wellformed.specs.Place.{placeFormed};
@@ -119,7 +117,8 @@ fn link_rows(t: Table) -> [u64; MAX_SERVICES]
 }
 
 // The table and the state are well formed, the cycle included. Both loops stand here, since a function of its own for one of them
-// would copy the table once more in every call of the engine.
+// would copy the table once more in every call of the engine. One loop for both gains at 2 and 8 services and loses at 32
+// (docs/BENCHMARKS.md).
 pub fn is_formed(t: Table, x: State) -> bool
     ensures { λ b. ⌜ b ≡ formed t x ⌝ }
 {

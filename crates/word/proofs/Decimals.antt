@@ -4,13 +4,12 @@ use mathlib.Core.List.{List}
 use mathlib.Core.Bool.{true}
 use Prim.Native.Nat.{ℕ, suc, _+_, _-_, _*_, _^_, _≤_, _<_}
 use native.Mathlib.Nat.{pow-suc, pow-le-pow-right, lt-of-lt-of-le, lt-of-le-of-lt, mul-le-mul-left}
-use native.Mathlib.Numerals.{add-one}
 use native.Mathlib.Omega.{arith}
 use lib.Dec.{lit<}
 use lib.ListN.{length, getD, drop, drop-of-length-le}
-use lib.Seq.{drop-cons}
 use borrow.Author.Tests.{leb-true}
 use Rattle.base.proofs.Tests.{and-true}
+use Rattle.base.proofs.Counting.{drop-more}
 use Rattle.text.specs.Bytes.{isDigit}
 use Rattle.word.specs.Decimals.{Sane, readOf, continued, decimalFrom}
 use Rattle.word.specs.declared.Decimal.{Decimal}
@@ -42,4 +41,4 @@ module _ (k : Decimal) (s : List ℕ) (i : ℕ) where
   pub decimal-next : {r : Reading} → i < length s → readOf k (getD s i 0) ≡ r
       → decimalFrom k (drop i s) ≡ continued r (λ k′. decimalFrom k′ (drop (i + 1) s))
   unfolding decimalFrom
-  decimal-next h e = rw (add-one i, drop-cons s i 0 h, e)
+  decimal-next h e = rw (drop-more s i 0 h, e)

@@ -1,15 +1,14 @@
--- The laws of the bytes of a name, as the loop goes through them, and the setting of a signal that was found or not.
-use mathlib.Core.Path.{_≡_}
+-- The laws of words: the bytes of a name as the loop goes through them, a signal that was found or not, and no.
+use mathlib.Core.Path.{_≡_, sym, _∙_}
 use mathlib.Core.Bool.{Bool, true, _&&_}
 use mathlib.Core.List.{List}
 use Prim.Native.Nat.{ℕ, _+_, _≤_, _<_}
-use native.Mathlib.Numerals.{add-one}
 use lib.ListN.{length, getD, drop, drop-of-length-le}
-use lib.Seq.{drop-cons}
 use borrow.Author.Tests.{lt-ltb, le-ltb}
-use Rattle.text.specs.Strings.{indexFrom}
+use Rattle.base.proofs.Counting.{drop-more}
+use Rattle.text.specs.Strings.{bytes, indexFrom, same}
 use Rattle.text.specs.Bytes.{isNameByte}
-use Rattle.word.specs.Words.{nameBytes, signalNames, signalOf}
+use Rattle.word.specs.Words.{nameBytes, noOf, signalNames, signalOf}
 use Rattle.word.specs.declared.Setting.the-variants.{Value, Bad}
 
 module _ (s : List ℕ) (k : ℕ) where
@@ -19,7 +18,7 @@ module _ (s : List ℕ) (k : ℕ) where
 
   pub bytes-next : {t : Bool} → k < length s → isNameByte (getD s k 0) ≡ t → nameBytes (drop k s) ≡ t && nameBytes (drop (k + 1) s)
   unfolding nameBytes
-  bytes-next h e = rw (add-one k, drop-cons s k 0 h, e)
+  bytes-next h e = rw (drop-more s k 0 h, e)
 
 -- a signal by the place that was found
 pub signal-found : (w : List ℕ) {k : ℕ} → indexFrom w 0 signalNames ≡ k → k < 8 → signalOf w ≡ Value k
@@ -29,3 +28,8 @@ signal-found w {k} e h = rw (e, lt-ltb k 8 h)
 pub signal-none : (w : List ℕ) {k : ℕ} → indexFrom w 0 signalNames ≡ k → 8 ≤ k → signalOf w ≡ Bad
 unfolding signalOf
 signal-none w {k} e h = rw (e, le-ltb k 8 h)
+
+-- the word is no
+pub no-word : (w : List ℕ) {q : Bool} → q ≡ same w (bytes "no") → q ≡ true → Value 0 ≡ noOf w
+unfolding noOf bytes
+no-word w e h = rw (sym e ∙ h)

@@ -5,7 +5,11 @@ use mathlib.Core.List.{List, [], _∷_, map}
 use lib.Dec.{eqb, leb}
 use Rattle.base.specs.Folds.{pick}
 use Rattle.text.specs.Strings.{bytes, indexFrom}
+use Rattle.service.specs.Limits.{defaultDelay, defaultInterval, defaultLimit, defaultStartTimeout, defaultStopTimeout}
+use Rattle.service.specs.Numbers.{signalPlace}
+use Rattle.service.specs.declared.Signal.the-variants.{Term}
 use Rattle.word.specs.declared.Setting.{Setting}
+use Rattle.word.specs.declared.Setting.the-variants.{Bad}
 use Rattle.word.specs.Words.{flagOf, noOf, kindOf, signalOf}
 use Rattle.word.specs.Decimals.{timeOf, countOf}
 
@@ -44,16 +48,22 @@ takesCommand p = eqb p 1 || eqb p 2
 abbrev pub takesName : ℕ → Bool
 takesName p = leb 10 p && leb p 12
 
--- the rule of each other property for its one token
+-- restart-delay, restart-limit-interval, start-timeout and stop-timeout
+abbrev pub takesTime : ℕ → Bool
+takesTime p = eqb p 5 || eqb p 6 || eqb p 8 || eqb p 9
+
+-- the rule of each property that takes neither, for its one token
 unfoldable pub settingOf : ℕ → List ℕ → Setting
 settingOf p w =
     pick (eqb p 0) (kindOf w)
     (pick (eqb p 3) (flagOf w)
     (pick (eqb p 4) (noOf w)
     (pick (eqb p 7) (countOf w)
-    (pick (eqb p 13) (signalOf w) (timeOf w)))))
+    (pick (eqb p 13) (signalOf w)
+    (pick (takesTime p) (timeOf w) Bad)))))
 
--- by property: no type (0), no command (0), "restart is no by default", "Defaults: restart-delay 2,000; start-timeout
--- 600,000; stop-timeout 100,000; limit interval 100,000", limit count 3, nothing for the dependencies, TERM
+-- by property: no type (0), no command (0), "restart is no by default", "Defaults: ..", nothing for the dependencies, "TERM (default)"
 abbrev pub defaults : List ℕ
-defaults = 0 ∷ 0 ∷ 0 ∷ 0 ∷ 0 ∷ 2000 ∷ 100000 ∷ 3 ∷ 600000 ∷ 100000 ∷ 0 ∷ 0 ∷ 0 ∷ 3 ∷ []
+defaults =
+    0 ∷ 0 ∷ 0 ∷ 0 ∷ 0 ∷ defaultDelay ∷ defaultInterval ∷ defaultLimit ∷ defaultStartTimeout ∷ defaultStopTimeout ∷
+    0 ∷ 0 ∷ 0 ∷ signalPlace Term ∷ []

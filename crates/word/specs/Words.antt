@@ -10,19 +10,15 @@ use Rattle.text.specs.Bytes.{isNameByte}
 use Rattle.word.specs.declared.Setting.{Setting}
 use Rattle.word.specs.declared.Setting.the-variants.{Value, Bad}
 
--- "Yes or no: yes, true, no, false": 1 for yes, 0 for no
-unfoldable pub flagOf : List ℕ → Setting
-unfolding bytes
-flagOf w =
-    pick (same w (bytes "yes")) (Value 1)
-    (pick (same w (bytes "true")) (Value 1)
-    (pick (same w (bytes "no")) (Value 0)
-    (pick (same w (bytes "false")) (Value 0) Bad)))
-
--- "smooth-recovery accepts only no or false"
+-- "smooth-recovery accepts only no or false": 0 for no
 unfoldable pub noOf : List ℕ → Setting
 unfolding bytes
 noOf w = pick (same w (bytes "no")) (Value 0) (pick (same w (bytes "false")) (Value 0) Bad)
+
+-- "Yes or no: yes, true, no, false": 1 for yes
+unfoldable pub flagOf : List ℕ → Setting
+unfolding bytes
+flagOf w = pick (same w (bytes "yes")) (Value 1) (pick (same w (bytes "true")) (Value 1) (noOf w))
 
 -- "type: process, scripted, internal": numbered from 1, since 0 stands for no type
 unfoldable pub kindOf : List ℕ → Setting

@@ -1,4 +1,6 @@
 // The words of a description: names of properties, the values of those that are no commands, names of services.
+use service::LONGEST_TIME;
+use service::MAX_COUNT;
 use text::is_digit;
 use text::is_name_byte;
 use text::same_bytes;
@@ -9,12 +11,6 @@ ghost use Rattle.text.specs.Bytes.{isDigit};
 ghost use Rattle.word.specs.Words.{flagOf, noOf, kindOf, signalOf, nameBytes, isName};
 ghost use Rattle.word.specs.Decimals.{Sane, blank, digitOf, readOf, decimalFrom, timeOf, countOf};
 ghost use Rattle.word.specs.Properties.{propertyOf, settingOf};
-
-// The longest time, in units of 0.1 ms.
-pub const LONGEST_TIME: u64 = 864000000;
-
-// The largest limit count.
-pub const MAX_COUNT: u64 = 65535;
 
 // The longest name of a service.
 pub const LONGEST_NAME: usize = 32;
@@ -72,7 +68,7 @@ pub fn property(name: &[u8]) -> usize
 }
 
 // Yes or no.
-pub fn read_flag(word: &[u8]) -> Setting
+fn read_flag(word: &[u8]) -> Setting
     ensures { λ r. ⌜ r ≡ flagOf (now (word .entry)) ⌝ }
 {
     if same_bytes(word, b"yes") {
@@ -81,17 +77,11 @@ pub fn read_flag(word: &[u8]) -> Setting
     if same_bytes(word, b"true") {
         return Setting::Value(1);
     }
-    if same_bytes(word, b"no") {
-        return Setting::Value(0);
-    }
-    if same_bytes(word, b"false") {
-        return Setting::Value(0);
-    }
-    Setting::Bad
+    read_no(word)
 }
 
 // No, and nothing else.
-pub fn read_no(word: &[u8]) -> Setting
+fn read_no(word: &[u8]) -> Setting
     ensures { λ r. ⌜ r ≡ noOf (now (word .entry)) ⌝ }
 {
     if same_bytes(word, b"no") {
@@ -104,7 +94,7 @@ pub fn read_no(word: &[u8]) -> Setting
 }
 
 // A type, numbered from 1.
-pub fn read_kind(word: &[u8]) -> Setting
+fn read_kind(word: &[u8]) -> Setting
     ensures { λ r. ⌜ r ≡ kindOf (now (word .entry)) ⌝ }
 {
     if same_bytes(word, b"process") {
@@ -120,7 +110,7 @@ pub fn read_kind(word: &[u8]) -> Setting
 }
 
 // A signal by its place in the list.
-pub fn read_signal(word: &[u8]) -> Setting
+fn read_signal(word: &[u8]) -> Setting
     ensures { λ r. ⌜ r ≡ signalOf (now (word .entry)) ⌝ }
 {
     let names: [&[u8]; 8] = [
@@ -198,7 +188,7 @@ fn advance(k: Decimal, b: u8) -> Reading
 }
 
 // The decimal number that a word is.
-pub fn read_decimal(word: &[u8]) -> Reading
+fn read_decimal(word: &[u8]) -> Reading
     ensures { λ r. ⌜ r ≡ decimalFrom blank (now (word .entry)) ⌝ }
     ensures sane { λ r. ⌜ Sane r ⌝ }
 {
@@ -236,7 +226,7 @@ fn scale(part: usize) -> u64
 }
 
 // A time in units of 0.1 ms.
-pub fn read_time(word: &[u8]) -> Setting
+fn read_time(word: &[u8]) -> Setting
     ensures { λ r. ⌜ r ≡ timeOf (now (word .entry)) ⌝ }
 {
     let Reading::On(k) = read_decimal(word) else {
@@ -252,7 +242,7 @@ pub fn read_time(word: &[u8]) -> Setting
 }
 
 // A limit count.
-pub fn read_limit(word: &[u8]) -> Setting
+fn read_limit(word: &[u8]) -> Setting
     ensures { λ r. ⌜ r ≡ countOf (now (word .entry)) ⌝ }
 {
     let Reading::On(k) = read_decimal(word) else {
@@ -289,7 +279,7 @@ pub fn is_name(s: &[u8]) -> bool
     (0 < s.len()) & (s.len() <= LONGEST_NAME) & name_bytes(s)
 }
 
-// The setting of a property that is neither a command nor a dependency.
+// The setting of a property that is neither a command nor a dependency; of any other none.
 pub fn read_setting(property: usize, word: &[u8]) -> Setting
     ensures { λ r. ⌜ r ≡ settingOf property (now (word .entry)) ⌝ }
 {
@@ -298,6 +288,7 @@ pub fn read_setting(property: usize, word: &[u8]) -> Setting
     let smooth = property == 4;
     let limits = property == 7;
     let signals = property == 13;
+    let timed = (property == 5) | (property == 6) | (property == 8) | (property == 9);
     if typed {
         return read_kind(word);
     }
@@ -313,5 +304,8 @@ pub fn read_setting(property: usize, word: &[u8]) -> Setting
     if signals {
         return read_signal(word);
     }
-    read_time(word)
+    if timed {
+        return read_time(word);
+    }
+    Setting::Bad
 }

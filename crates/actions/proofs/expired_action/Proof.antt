@@ -3,9 +3,6 @@ use borrow.Author.Needs.{needs}
 use Rattle.actions.proofs.expired_action.Statement.{statement}
 use Rattle.actions.proofs.expired_action.Tie as tie
 
-is-starting-requires : tie.Need-is-starting-requires
-is-starting-requires c κs = search needs
-
 returns : tie.Need-returns
 returns c = simp (c .if1 .taken, ← c .before .is-starting .ensures)
 
@@ -13,4 +10,4 @@ returns-2 : tie.Need-returns-2
 returns-2 c = simp (c .if1 .left, ← c .before .is-starting .ensures)
 
 pub expired-action-spec : {M : Type 1} → statement M
-expired-action-spec = tie.close (tie.spec is-starting-requires returns returns-2)
+expired-action-spec = tie.close (tie.spec (λ c κs. search needs) returns returns-2)

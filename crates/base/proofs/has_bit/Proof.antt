@@ -5,9 +5,6 @@ use borrow.Author.Needs.{needs}
 use Rattle.base.proofs.has_bit.Statement.{statement}
 use Rattle.base.proofs.has_bit.Tie as tie
 
-shr-result : tie.Need-shr-result
-shr-result c = search needs
-
 returns : tie.Need-returns
 unfolding hasBit
 returns c = search needs
@@ -16,4 +13,4 @@ returns-2 : tie.Need-returns-2
 returns-2 c = search high-bit
 
 pub has-bit-spec : {M : Type 1} → statement M
-has-bit-spec = tie.close (tie.spec shr-result returns returns-2)
+has-bit-spec = tie.close (tie.spec (λ c. search needs) returns returns-2)

@@ -5,9 +5,6 @@ use borrow.Author.Needs.{needs}
 use Rattle.base.proofs.is_within.Statement.{statement}
 use Rattle.base.proofs.is_within.Tie as tie
 
-shr-result : tie.Need-shr-result
-shr-result c = search needs
-
 returns : tie.Need-returns
 unfolding within
 returns c = search needs
@@ -16,4 +13,4 @@ returns-2 : tie.Need-returns-2
 returns-2 c = search high-within
 
 pub is-within-spec : {M : Type 1} → statement M
-is-within-spec = tie.close (tie.spec shr-result returns returns-2)
+is-within-spec = tie.close (tie.spec (λ c. search needs) returns returns-2)

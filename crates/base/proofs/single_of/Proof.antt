@@ -4,9 +4,6 @@ use borrow.Author.Needs.{needs}
 use Rattle.base.proofs.single_of.Statement.{statement}
 use Rattle.base.proofs.single_of.Tie as tie
 
-shl-result : tie.Need-shl-result
-shl-result c = search needs
-
 returns : tie.Need-returns
 returns c = search shifted-guarded
 
@@ -17,4 +14,4 @@ returns-3 : tie.Need-returns-3
 returns-3 c = search empty-high
 
 pub single-of-spec : {M : Type 1} → statement M
-single-of-spec = tie.close (tie.spec shl-result returns returns-2 returns-3)
+single-of-spec = tie.close (tie.spec (λ c. search needs) returns returns-2 returns-3)

@@ -5,36 +5,21 @@ use borrow.Author.Needs.{needs}
 use Rattle.decide.proofs.choose.Statement.{statement}
 use Rattle.decide.proofs.choose.Tie as tie
 
-lowest-requires : tie.Need-lowest-requires
-lowest-requires c κs = search needs
-
 returns : tie.Need-returns
 unfolding choiceFrom
 returns c = search in-fits
-
-lowest-requires-2 : tie.Need-lowest-requires-2
-lowest-requires-2 c κs = search needs
 
 returns-2 : tie.Need-returns-2
 unfolding choiceFrom
 returns-2 c = search (in-fits, in-none)
 
-lowest-requires-3 : tie.Need-lowest-requires-3
-lowest-requires-3 c κs = search needs
-
 returns-3 : tie.Need-returns-3
 unfolding choiceFrom
 returns-3 c = search (in-fits, in-none) depth 6
 
-lowest-requires-4 : tie.Need-lowest-requires-4
-lowest-requires-4 c κs = search needs
-
 returns-4 : tie.Need-returns-4
 unfolding choiceFrom
 returns-4 c = search (in-fits, in-none) depth 7
-
-choose-later-requires : tie.Need-choose-later-requires
-choose-later-requires c κs = search needs
 
 returns-5 : tie.Need-returns-5
 unfolding choiceFrom
@@ -44,13 +29,13 @@ pub choose-spec : {M : Type 1} → statement M
 choose-spec =
     tie.close
     (tie.spec
-    lowest-requires
+    (λ c κs. search needs)
     returns
-    lowest-requires-2
+    (λ c κs. search needs)
     returns-2
-    lowest-requires-3
+    (λ c κs. search needs)
     returns-3
-    lowest-requires-4
+    (λ c κs. search needs)
     returns-4
-    choose-later-requires
+    (λ c κs. search needs)
     returns-5)

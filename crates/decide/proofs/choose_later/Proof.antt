@@ -5,29 +5,17 @@ use borrow.Author.Needs.{needs}
 use Rattle.decide.proofs.choose_later.Statement.{statement}
 use Rattle.decide.proofs.choose_later.Tie as tie
 
-lowest-requires : tie.Need-lowest-requires
-lowest-requires c κs = search needs
-
 returns : tie.Need-returns
 unfolding laterChoice
 returns c = search in-fits
-
-lowest-requires-2 : tie.Need-lowest-requires-2
-lowest-requires-2 c κs = search needs
 
 returns-2 : tie.Need-returns-2
 unfolding laterChoice
 returns-2 c = search (in-fits, in-none)
 
-lowest-requires-3 : tie.Need-lowest-requires-3
-lowest-requires-3 c κs = search needs
-
 returns-3 : tie.Need-returns-3
 unfolding laterChoice
 returns-3 c = search (in-fits, in-none) depth 6
-
-lowest-requires-4 : tie.Need-lowest-requires-4
-lowest-requires-4 c κs = search needs
 
 returns-4 : tie.Need-returns-4
 unfolding laterChoice
@@ -41,12 +29,12 @@ pub choose-later-spec : {M : Type 1} → statement M
 choose-later-spec =
     tie.close
     (tie.spec
-    lowest-requires
+    (λ c κs. search needs)
     returns
-    lowest-requires-2
+    (λ c κs. search needs)
     returns-2
-    lowest-requires-3
+    (λ c κs. search needs)
     returns-3
-    lowest-requires-4
+    (λ c κs. search needs)
     returns-4
     returns-5)

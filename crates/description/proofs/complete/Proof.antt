@@ -3,8 +3,6 @@ use Rattle.description.specs.Texts.{completion}
 use borrow.Author.Needs.{needs}
 use Rattle.description.proofs.complete.Statement.{statement}
 use Rattle.description.proofs.complete.Tie as tie
-use Rattle.description.proofs.complete.Reads as reads
-use Rattle.description.proofs.complete.Lts as lts
 
 returns : tie.Need-returns
 unfolding completion

@@ -9,11 +9,6 @@ use Rattle.description.proofs.Words.{word-at-fits}
 use borrow.Author.Needs.{needs}
 use Rattle.description.proofs.is_dependency.Statement.{statement}
 use Rattle.description.proofs.is_dependency.Tie as tie
-use Rattle.description.proofs.is_dependency.Reads as reads
-use Rattle.description.proofs.is_dependency.Lts as lts
-use Rattle.description.proofs.write_word_at.Reads as write-word-at-reads
-use Rattle.text.proofs.part.Reads as part-reads
-use Rattle.text.proofs.same_bytes.Reads as same-bytes-reads
 
 returns : tie.Need-returns
 returns c =

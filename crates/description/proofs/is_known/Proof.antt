@@ -5,9 +5,6 @@ use Rattle.description.specs.Settings.{dependencyAt, isDependency, known
 use borrow.Author.Needs.{needs}
 use Rattle.description.proofs.is_known.Statement.{statement}
 use Rattle.description.proofs.is_known.Tie as tie
-use Rattle.description.proofs.is_known.Reads as reads
-use Rattle.description.proofs.is_known.Lts as lts
-use Rattle.description.proofs.is_dependency.Reads as is-dependency-reads
 
 abbrev Inv-loop : tie.InvT-loop
 Inv-loop text property word d found₀ k₀ found k = Some (λ j. isDependency text (dependencyAt d j) property word) 16 found k

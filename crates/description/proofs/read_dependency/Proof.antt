@@ -4,9 +4,6 @@ use Rattle.description.specs.Lines.{dependencyRead}
 use borrow.Author.Needs.{needs}
 use Rattle.description.proofs.read_dependency.Statement.{statement}
 use Rattle.description.proofs.read_dependency.Tie as tie
-use Rattle.description.proofs.read_dependency.Reads as reads
-use Rattle.description.proofs.read_dependency.Lts as lts
-use Rattle.description.proofs.is_known.Reads as is-known-reads
 
 returns : tie.Need-returns
 unfolding dependencyRead

@@ -9,11 +9,6 @@ use Rattle.description.specs.Lines.{wordRead, tokensRead}
 use borrow.Author.Needs.{needs}
 use Rattle.description.proofs.read_tokens.Statement.{statement}
 use Rattle.description.proofs.read_tokens.Tie as tie
-use Rattle.description.proofs.read_tokens.Reads as reads
-use Rattle.description.proofs.read_tokens.Lts as lts
-use Rattle.description.proofs.read_word_line.Reads as read-word-line-reads
-use Rattle.text.proofs.part.Reads as part-reads
-use Rattle.value.proofs.write_word.Reads as write-word-reads
 
 returns : tie.Need-returns
 unfolding tokensRead

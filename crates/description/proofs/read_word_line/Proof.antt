@@ -4,12 +4,6 @@ use Rattle.description.specs.Lines.{wordRead}
 use borrow.Author.Needs.{needs}
 use Rattle.description.proofs.read_word_line.Statement.{statement}
 use Rattle.description.proofs.read_word_line.Tie as tie
-use Rattle.description.proofs.read_word_line.Reads as reads
-use Rattle.description.proofs.read_word_line.Lts as lts
-use Rattle.description.proofs.read_dependency.Reads as read-dependency-reads
-use Rattle.description.proofs.setting_line.Reads as setting-line-reads
-use Rattle.word.proofs.is_name.Reads as is-name-reads
-use Rattle.word.proofs.read_setting.Reads as read-setting-reads
 
 returns : tie.Need-returns
 unfolding wordRead

@@ -2,8 +2,6 @@
 use borrow.Author.Needs.{needs}
 use Rattle.description.proofs.setting_line.Statement.{statement}
 use Rattle.description.proofs.setting_line.Tie as tie
-use Rattle.description.proofs.setting_line.Reads as reads
-use Rattle.description.proofs.setting_line.Lts as lts
 
 returns : tie.Need-returns
 returns c = rw (c .before .s .given .1)

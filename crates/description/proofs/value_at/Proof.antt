@@ -5,10 +5,6 @@ use Rattle.description.specs.Settings.{valueAt}
 use borrow.Author.Needs.{needs}
 use Rattle.description.proofs.value_at.Statement.{statement}
 use Rattle.description.proofs.value_at.Tie as tie
-use Rattle.description.proofs.value_at.Reads as reads
-use Rattle.description.proofs.value_at.Lts as lts
-use Rattle.text.proofs.line_end.Reads as line-end-reads
-use Rattle.text.proofs.part.Reads as part-reads
 
 returns : tie.Need-returns
 unfolding valueAt

@@ -3,10 +3,6 @@ use Rattle.description.specs.Settings.{wordAt}
 use borrow.Author.Needs.{needs}
 use Rattle.description.proofs.write_word_at.Statement.{statement}
 use Rattle.description.proofs.write_word_at.Tie as tie
-use Rattle.description.proofs.write_word_at.Reads as reads
-use Rattle.description.proofs.write_word_at.Lts as lts
-use Rattle.description.proofs.value_at.Reads as value-at-reads
-use Rattle.value.proofs.write_word.Reads as write-word-reads
 
 returns : tie.Need-returns
 unfolding wordAt

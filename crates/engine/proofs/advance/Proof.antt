@@ -35,82 +35,19 @@ abbrev μ-loop : tie.MeasureT-loop
 loop-holds : tie.Need-loop-holds Inv-loop2 μ-loop2 Inv-loop3 μ-loop3 Inv-loop μ-loop
 loop-holds c = let z : length (c .before .before .args .x .records) ≡ 32 = search (needs, length-mapped) in running-none (c .before .before .pre .0) z
 
-none-requires : tie.Need-none-requires Inv-loop2 μ-loop2 Inv-loop3 μ-loop3 Inv-loop μ-loop
-none-requires c κs = search needs
-
 loop2-holds : tie.Need-loop2-holds Inv-loop2 μ-loop2 Inv-loop3 μ-loop3 Inv-loop μ-loop
 loop2-holds c = rw (c .none .ensures) folded-none
-
-mul-v : tie.Need-mul-v Inv-loop2 μ-loop2 Inv-loop3 μ-loop3 Inv-loop μ-loop
-mul-v c = search needs
-
-element-copy-out-v : tie.Need-element-copy-out-v Inv-loop2 μ-loop2 Inv-loop3 μ-loop3 Inv-loop μ-loop
-element-copy-out-v c = search needs
-
-mul-r : tie.Need-mul-r Inv-loop2 μ-loop2 Inv-loop3 μ-loop3 Inv-loop μ-loop
-mul-r c = search needs
-
-element-copy-out-r : tie.Need-element-copy-out-r Inv-loop2 μ-loop2 Inv-loop3 μ-loop3 Inv-loop μ-loop
-element-copy-out-r c = search needs
-
-noted-requires : tie.Need-noted-requires Inv-loop2 μ-loop2 Inv-loop3 μ-loop3 Inv-loop μ-loop
-noted-requires c κs = search needs
-
-add-i : tie.Need-add-i Inv-loop2 μ-loop2 Inv-loop3 μ-loop3 Inv-loop μ-loop
-add-i c = search needs
-
-loop2-less : tie.Need-loop2-less Inv-loop2 μ-loop2 Inv-loop3 μ-loop3 Inv-loop μ-loop
-loop2-less c = search needs
 
 loop2-again : tie.Need-loop2-again Inv-loop2 μ-loop2 Inv-loop3 μ-loop3 Inv-loop μ-loop
 unfolding settingsAt recordAt
 loop2-again c = search folded-more
 
-none-requires-2 : tie.Need-none-requires-2 Inv-loop2 μ-loop2 Inv-loop3 μ-loop3 Inv-loop μ-loop
-none-requires-2 c κs = search needs
-
 loop3-holds : tie.Need-loop3-holds Inv-loop2 μ-loop2 Inv-loop3 μ-loop3 Inv-loop μ-loop
 loop3-holds c = fitting-none (c .before .before .loop2 .inv) (c .before .loop2-test .left) (c .none2 .ensures)
-
-mul-v-2 : tie.Need-mul-v-2 Inv-loop2 μ-loop2 Inv-loop3 μ-loop3 Inv-loop μ-loop
-mul-v-2 c = search needs
-
-element-copy-out-v-2 : tie.Need-element-copy-out-v-2 Inv-loop2 μ-loop2 Inv-loop3 μ-loop3 Inv-loop μ-loop
-element-copy-out-v-2 c = search needs
-
-mul-r-2 : tie.Need-mul-r-2 Inv-loop2 μ-loop2 Inv-loop3 μ-loop3 Inv-loop μ-loop
-mul-r-2 c = search needs
-
-element-copy-out-r-2 : tie.Need-element-copy-out-r-2 Inv-loop2 μ-loop2 Inv-loop3 μ-loop3 Inv-loop μ-loop
-element-copy-out-r-2 c = search needs
-
-fit-requires : tie.Need-fit-requires Inv-loop2 μ-loop2 Inv-loop3 μ-loop3 Inv-loop μ-loop
-fit-requires c κs = search needs
-
-add-j : tie.Need-add-j Inv-loop2 μ-loop2 Inv-loop3 μ-loop3 Inv-loop μ-loop
-add-j c = search needs
-
-loop3-less : tie.Need-loop3-less Inv-loop2 μ-loop2 Inv-loop3 μ-loop3 Inv-loop μ-loop
-loop3-less c = search needs
 
 loop3-again : tie.Need-loop3-again Inv-loop2 μ-loop2 Inv-loop3 μ-loop3 Inv-loop μ-loop
 unfolding settingsAt recordAt
 loop3-again c = fitting-more (c .before .before .before .before .loop3 .inv) (c .before .before .before .loop3-test .taken) (c .fit .ensures)
-
-choose-requires : tie.Need-choose-requires Inv-loop2 μ-loop2 Inv-loop3 μ-loop3 Inv-loop μ-loop
-choose-requires c κs = search needs
-
-enum-known-c : tie.Need-enum-known-c Inv-loop2 μ-loop2 Inv-loop3 μ-loop3 Inv-loop μ-loop
-enum-known-c c = search needs
-
-enum-told : tie.Need-enum-told Inv-loop2 μ-loop2 Inv-loop3 μ-loop3 Inv-loop μ-loop
-enum-told c = search needs
-
-same-length : tie.Need-same-length Inv-loop2 μ-loop2 Inv-loop3 μ-loop3 Inv-loop μ-loop
-same-length c = search needs
-
-same-length-2 : tie.Need-same-length-2 Inv-loop2 μ-loop2 Inv-loop3 μ-loop3 Inv-loop μ-loop
-same-length-2 c = search needs
 
 returns : tie.Need-returns Inv-loop2 μ-loop2 Inv-loop3 μ-loop3 Inv-loop μ-loop
 returns c = running-quiet (c .before .before .before .before .before .before .before .before .before .before .loop .inv) (c .before .before .before .before .before .before .before .before .before .loop-test .taken) (step-quiet _ _ _ (c .before .before .before .before .before .before .before .before .before .before .loop .inv .passed-list) (choice-made (c .before .before .before .before .before .before .before .before .before .before .before .before .before .pre .1) (c .before .before .before .before .loop3 .inv) (c .before .before .before .loop3-test .left) (c .before .before .choose .ensures)) (c .enum-told .given .1))
@@ -127,32 +64,17 @@ mul-r-3 c = let l = chosen-below _ _ _ (c .before .before .before .before .befor
 element-copy-out-r-3 : tie.Need-element-copy-out-r-3 Inv-loop2 μ-loop2 Inv-loop3 μ-loop3 Inv-loop μ-loop
 element-copy-out-r-3 c = let l = chosen-below _ _ _ (c .before .before .before .before .before .before .before .before .before .before .before .before .loop .inv .passed-list) (choice-made (c .before .before .before .before .before .before .before .before .before .before .before .before .before .before .before .pre .1) (c .before .before .before .before .before .before .loop3 .inv) (c .before .before .before .before .before .loop3-test .left) (c .before .before .before .before .choose .ensures)) _ _ (c .before .before .c .given .1) in let m = c .before .before .before .before .before .before .before .before .before .before .before .before .before .before .before .pre .1 in search needs
 
-overlaps-requires : tie.Need-overlaps-requires Inv-loop2 μ-loop2 Inv-loop3 μ-loop3 Inv-loop μ-loop
-overlaps-requires c κs = search needs
-
-leave-requires : tie.Need-leave-requires Inv-loop2 μ-loop2 Inv-loop3 μ-loop3 Inv-loop μ-loop
-leave-requires c κs = search needs
-
-hand-out-requires : tie.Need-hand-out-requires Inv-loop2 μ-loop2 Inv-loop3 μ-loop3 Inv-loop μ-loop
-hand-out-requires c κs = search needs
-
 mul-q : tie.Need-mul-q Inv-loop2 μ-loop2 Inv-loop3 μ-loop3 Inv-loop μ-loop
 mul-q c = let l = chosen-below _ _ _ (c .before .before .before .before .before .before .before .before .before .before .before .before .before .before .before .before .loop .inv .passed-list) (choice-made (c .before .before .before .before .before .before .before .before .before .before .before .before .before .before .before .before .before .before .before .pre .1) (c .before .before .before .before .before .before .before .before .before .before .loop3 .inv) (c .before .before .before .before .before .before .before .before .before .loop3-test .left) (c .before .before .before .before .before .before .before .before .choose .ensures)) _ _ (c .before .before .before .before .before .before .c .given .1) in let m = c .before .before .before .before .before .before .before .before .before .before .before .before .before .before .before .before .before .before .before .pre .1 in search needs
 
 element-set-from-q : tie.Need-element-set-from-q Inv-loop2 μ-loop2 Inv-loop3 μ-loop3 Inv-loop μ-loop
 element-set-from-q c = let l = chosen-below _ _ _ (c .before .before .before .before .before .before .before .before .before .before .before .before .before .before .before .before .loop .inv .passed-list) (choice-made (c .before .before .before .before .before .before .before .before .before .before .before .before .before .before .before .before .before .before .before .pre .1) (c .before .before .before .before .before .before .before .before .before .before .loop3 .inv) (c .before .before .before .before .before .before .before .before .before .loop3-test .left) (c .before .before .before .before .before .before .before .before .choose .ensures)) _ _ (c .before .before .before .before .before .before .c .given .1) in let m = c .before .before .before .before .before .before .before .before .before .before .before .before .before .before .before .before .before .before .before .pre .1 in search needs
 
-action-service-requires : tie.Need-action-service-requires Inv-loop2 μ-loop2 Inv-loop3 μ-loop3 Inv-loop μ-loop
-action-service-requires c κs = search needs
-
 mul-services : tie.Need-mul-services Inv-loop2 μ-loop2 Inv-loop3 μ-loop3 Inv-loop μ-loop
 mul-services c = let m = c .before .before .before .before .before .before .before .before .before .before .before .before .before .before .before .before .before .before .before .before .pre .4 in let k = c .before .before .before .before .before .before .before .before .before .before .before .before .before .before .before .before .loop-test .taken in search needs
 
 slice-write-services : tie.Need-slice-write-services Inv-loop2 μ-loop2 Inv-loop3 μ-loop3 Inv-loop μ-loop
 slice-write-services c = let l = c .before .before .before .before .before .before .before .before .before .before .before .before .before .before .before .before .before .loop .inv .long-services in let m = c .before .before .before .before .before .before .before .before .before .before .before .before .before .before .before .before .before .before .before .before .pre .2 in let k = c .before .before .before .before .before .before .before .before .before .before .before .before .before .before .before .before .loop-test .taken in search needs
-
-action-number-requires : tie.Need-action-number-requires Inv-loop2 μ-loop2 Inv-loop3 μ-loop3 Inv-loop μ-loop
-action-number-requires c κs = search needs
 
 mul-actions : tie.Need-mul-actions Inv-loop2 μ-loop2 Inv-loop3 μ-loop3 Inv-loop μ-loop
 mul-actions c = let m = c .before .before .before .before .before .before .before .before .before .before .before .before .before .before .before .before .before .before .before .before .before .pre .4 in let k = c .before .before .before .before .before .before .before .before .before .before .before .before .before .before .before .before .before .loop-test .taken in search needs
@@ -163,18 +85,9 @@ slice-write-actions c = let l = c .before .before .before .before .before .befor
 add-k : tie.Need-add-k Inv-loop2 μ-loop2 Inv-loop3 μ-loop3 Inv-loop μ-loop
 add-k c = let m = c .before .before .before .before .before .before .before .before .before .before .before .before .before .before .before .before .before .before .before .before .before .pre .4 in let k = c .before .before .before .before .before .before .before .before .before .before .before .before .before .before .before .before .before .loop-test .taken in search needs
 
-loop-less : tie.Need-loop-less Inv-loop2 μ-loop2 Inv-loop3 μ-loop3 Inv-loop μ-loop
-loop-less c = search needs
-
 loop-again : tie.Need-loop-again Inv-loop2 μ-loop2 Inv-loop3 μ-loop3 Inv-loop μ-loop
 unfolding settingsAt recordAt withRecord
 loop-again c = running-more (c .before .before .before .before .before .before .before .before .before .before .before .before .before .before .before .before .before .before .loop .inv) (c .before .before .before .before .before .before .before .before .before .before .before .before .before .before .before .before .before .loop-test .taken) (step-fits _ _ _ (c .before .before .before .before .before .before .before .before .before .before .before .before .before .before .before .before .before .before .loop .inv .passed-list) (choice-made (c .before .before .before .before .before .before .before .before .before .before .before .before .before .before .before .before .before .before .before .before .before .pre .1) (c .before .before .before .before .before .before .before .before .before .before .before .before .loop3 .inv) (c .before .before .before .before .before .before .before .before .before .before .before .loop3-test .left) (c .before .before .before .before .before .before .before .before .before .before .choose .ensures)) _ _ _ _ _ _ (user-gathered (c .before .before .before .before .before .before .before .before .before .before .before .before .before .before .before .before .before .before .before .before .before .pre .1) (c .before .before .before .before .before .before .before .before .before .before .before .before .loop3 .inv) (c .before .before .before .before .before .before .before .before .before .before .before .loop3-test .left)) (c .before .before .before .before .before .before .before .before .c .given .1) (c .before .before .before .before .overlaps .ensures) (c .before .before .before .leave .ensures) (c .before .before .hand-out .ensures)) (c .before .action-service .ensures) (c .action-number .ensures)
-
-same-length-3 : tie.Need-same-length-3 Inv-loop2 μ-loop2 Inv-loop3 μ-loop3 Inv-loop μ-loop
-same-length-3 c = search needs
-
-same-length-4 : tie.Need-same-length-4 Inv-loop2 μ-loop2 Inv-loop3 μ-loop3 Inv-loop μ-loop
-same-length-4 c = search needs
 
 returns-2 : tie.Need-returns-2 Inv-loop2 μ-loop2 Inv-loop3 μ-loop3 Inv-loop μ-loop
 returns-2 c = running-all (c .before .loop .inv) (c .loop-test .left)
@@ -190,50 +103,50 @@ advance-spec =
     Inv-loop
     μ-loop
     loop-holds
-    none-requires
+    (λ c κs. search needs)
     loop2-holds
-    mul-v
-    element-copy-out-v
-    mul-r
-    element-copy-out-r
-    noted-requires
-    add-i
-    loop2-less
+    (λ c. search needs)
+    (λ c. search needs)
+    (λ c. search needs)
+    (λ c. search needs)
+    (λ c κs. search needs)
+    (λ c. search needs)
+    (λ c. search needs)
     loop2-again
-    none-requires-2
+    (λ c κs. search needs)
     loop3-holds
-    mul-v-2
-    element-copy-out-v-2
-    mul-r-2
-    element-copy-out-r-2
-    fit-requires
-    add-j
-    loop3-less
+    (λ c. search needs)
+    (λ c. search needs)
+    (λ c. search needs)
+    (λ c. search needs)
+    (λ c κs. search needs)
+    (λ c. search needs)
+    (λ c. search needs)
     loop3-again
-    choose-requires
-    enum-known-c
-    enum-told
-    same-length
-    same-length-2
+    (λ c κs. search needs)
+    (λ c. search needs)
+    (λ c. search needs)
+    (λ c. search needs)
+    (λ c. search needs)
     returns
     mul-v-3
     element-copy-out-v-3
     mul-r-3
     element-copy-out-r-3
-    overlaps-requires
-    leave-requires
-    hand-out-requires
+    (λ c κs. search needs)
+    (λ c κs. search needs)
+    (λ c κs. search needs)
     mul-q
     element-set-from-q
-    action-service-requires
+    (λ c κs. search needs)
     mul-services
     slice-write-services
-    action-number-requires
+    (λ c κs. search needs)
     mul-actions
     slice-write-actions
     add-k
-    loop-less
+    (λ c. search needs)
     loop-again
-    same-length-3
-    same-length-4
+    (λ c. search needs)
+    (λ c. search needs)
     returns-2)

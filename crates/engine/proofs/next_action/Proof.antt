@@ -3,20 +3,11 @@ use borrow.Author.Needs.{needs}
 use mathlib.Core.Path.{_∙_, refl, sym}
 use native.Mathlib.Omega.{arith}
 use Rattle.rules.specs.Calls.{check, outcome}
-use Rattle.settling.proofs.Formed.{formed-few}
+use Rattle.rules.proofs.Formed.{formed-few}
 use Rattle.engine.proofs.Running.{next-done}
 use borrow.Author.Needs.{needs}
 use Rattle.engine.proofs.next_action.Statement.{statement}
 use Rattle.engine.proofs.next_action.Tie as tie
-
-is-formed-requires : tie.Need-is-formed-requires
-is-formed-requires c κs = search needs
-
-slice-aggregate-advance : tie.Need-slice-aggregate-advance
-slice-aggregate-advance c = search needs
-
-slice-aggregate-advance-2 : tie.Need-slice-aggregate-advance-2
-slice-aggregate-advance-2 c = search needs
 
 advance-requires : tie.Need-advance-requires
 advance-requires c κs = (sym (c .before .before .before .is-formed .ensures) ∙ c .before .before .if1 .taken, formed-few _ _ _ (c .before .before .before .is-formed .ensures) (c .before .before .if1 .taken), omega arith, omega arith, omega arith)
@@ -32,9 +23,9 @@ pub next-action-spec : {M : Type 1} → statement M
 next-action-spec =
     tie.close
     (tie.spec
-    is-formed-requires
-    slice-aggregate-advance
-    slice-aggregate-advance-2
+    (λ c κs. search needs)
+    (λ c. search needs)
+    (λ c. search needs)
     advance-requires
     returns
     returns-2)

@@ -6,14 +6,11 @@ use lib.ListN.{length}
 use borrow.Author.Tests.{le-leb, lt-leb}
 use Rattle.base.proofs.Lists.{length-mapped}
 use Rattle.rules.specs.Calls.{check, outcome}
-use Rattle.settling.proofs.Formed.{formed-few}
+use Rattle.rules.proofs.Formed.{formed-few}
 use Rattle.engine.proofs.Running.{run-done, run-rested}
 use borrow.Author.Needs.{needs}
 use Rattle.engine.proofs.run_to_quiet.Statement.{statement}
 use Rattle.engine.proofs.run_to_quiet.Tie as tie
-
-is-formed-requires : tie.Need-is-formed-requires
-is-formed-requires c κs = search needs
 
 mul-room : tie.Need-mul-room
 mul-room c = let h = formed-few _ _ _ (c .before .before .is-formed .ensures) (c .before .if1 .taken) in search needs
@@ -21,31 +18,16 @@ mul-room c = let h = formed-few _ _ _ (c .before .before .is-formed .ensures) (c
 advance-requires : tie.Need-advance-requires
 advance-requires c κs = let h = formed-few _ _ _ (c .before .before .before .before .before .before .is-formed .ensures) (c .before .before .before .before .before .if1 .taken) in (sym (c .before .before .before .before .before .before .is-formed .ensures) ∙ c .before .before .before .before .before .if1 .taken, h, c .before .before .before .if2 .taken, c .before .before .if3 .taken, omega (arith, h))
 
-same-length : tie.Need-same-length
-same-length c = search needs
-
-same-length-2 : tie.Need-same-length-2
-same-length-2 c = search needs
-
 returns : tie.Need-returns
 returns c = let z : length (c .before .before .before .before .before .before .before .before .before .before .before .before .before .before .before .args .x .records) ≡ 32 = search (needs, length-mapped) in (run-done _ _ _ _ _ _ _ _ (c .before .before .before .before .before .before .before .before .before .before .before .before .is-formed .ensures) (c .before .before .before .before .before .before .before .before .before .before .before .if1 .taken) _ (c .before .before .before .before .before .advance .ensures) refl (c .before .before .before .before .before .before .before .before .before .if2 .taken) (c .before .before .before .before .before .before .before .before .if3 .taken), run-rested _ _ _ _ _ _ _ _ (c .before .before .before .before .before .before .before .before .before .before .before .before .is-formed .ensures) (c .before .before .before .before .before .before .before .before .before .before .before .if1 .taken) _ (c .before .before .before .before .before .advance .ensures) refl z)
-
-refuse-run-requires : tie.Need-refuse-run-requires
-refuse-run-requires c κs = search needs
 
 returns-2 : tie.Need-returns-2
 unfolding outcome check
 returns-2 c = (simp (c .refuse-run .ensures, lt-leb _ _ (c .before .if3 .left), le-leb _ _ (c .before .before .if2 .taken), c .before .before .before .before .if1 .taken, ← c .before .before .before .before .before .is-formed .ensures), rw (c .refuse-run .ensures))
 
-refuse-run-requires-2 : tie.Need-refuse-run-requires-2
-refuse-run-requires-2 c κs = search needs
-
 returns-3 : tie.Need-returns-3
 unfolding outcome check
 returns-3 c = (simp (c .refuse-run2 .ensures, lt-leb _ _ (c .before .if2 .left), c .before .before .before .if1 .taken, ← c .before .before .before .before .is-formed .ensures), rw (c .refuse-run2 .ensures))
-
-refuse-run-requires-3 : tie.Need-refuse-run-requires-3
-refuse-run-requires-3 c κs = search needs
 
 returns-4 : tie.Need-returns-4
 unfolding outcome check
@@ -55,15 +37,15 @@ pub run-to-quiet-spec : {M : Type 1} → statement M
 run-to-quiet-spec =
     tie.close
     (tie.spec
-    is-formed-requires
+    (λ c κs. search needs)
     mul-room
     advance-requires
-    same-length
-    same-length-2
+    (λ c. search needs)
+    (λ c. search needs)
     returns
-    refuse-run-requires
+    (λ c κs. search needs)
     returns-2
-    refuse-run-requires-2
+    (λ c κs. search needs)
     returns-3
-    refuse-run-requires-3
+    (λ c κs. search needs)
     returns-4)

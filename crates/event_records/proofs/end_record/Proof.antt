@@ -5,39 +5,6 @@ use borrow.Author.Needs.{needs}
 use Rattle.event_records.proofs.end_record.Statement.{statement}
 use Rattle.event_records.proofs.end_record.Tie as tie
 
-is-sound-requires : tie.Need-is-sound-requires
-is-sound-requires c κs = search needs
-
-dead-record-requires : tie.Need-dead-record-requires
-dead-record-requires c κs = search needs
-
-enum-told : tie.Need-enum-told
-enum-told c = search needs
-
-enum-told-2 : tie.Need-enum-told-2
-enum-told-2 c = search needs
-
-enum-told-3 : tie.Need-enum-told-3
-enum-told-3 c = search needs
-
-started-up-requires : tie.Need-started-up-requires
-started-up-requires c κs = search needs
-
-at-rest-requires : tie.Need-at-rest-requires
-at-rest-requires c κs = search needs
-
-enum-told-4 : tie.Need-enum-told-4
-enum-told-4 c = search needs
-
-fallen-requires : tie.Need-fallen-requires
-fallen-requires c κs = search needs
-
-enum-told-5 : tie.Need-enum-told-5
-enum-told-5 c = search needs
-
-settle-requires : tie.Need-settle-requires
-settle-requires c κs = search needs
-
 returns : tie.Need-returns
 unfolding endedAs
 returns c = simp (c .enum-told .given .1, c .before .before .dead-record .ensures, c .before .before .before .if1 .taken, ← c .before .before .before .before .is-sound .ensures)
@@ -70,17 +37,17 @@ pub end-record-spec : {M : Type 1} → statement M
 end-record-spec =
     tie.close
     (tie.spec
-    is-sound-requires
-    dead-record-requires
-    enum-told
-    enum-told-2
-    enum-told-3
-    started-up-requires
-    at-rest-requires
-    enum-told-4
-    fallen-requires
-    enum-told-5
-    settle-requires
+    (λ c κs. search needs)
+    (λ c κs. search needs)
+    (λ c. search needs)
+    (λ c. search needs)
+    (λ c. search needs)
+    (λ c κs. search needs)
+    (λ c κs. search needs)
+    (λ c. search needs)
+    (λ c κs. search needs)
+    (λ c. search needs)
+    (λ c κs. search needs)
     returns
     returns-2
     returns-3

@@ -6,31 +6,16 @@ use borrow.Author.Needs.{needs}
 use Rattle.events.proofs.clock.Statement.{statement}
 use Rattle.events.proofs.clock.Tie as tie
 
-is-formed-requires : tie.Need-is-formed-requires
-is-formed-requires c κs = search needs
-
-done-requires : tie.Need-done-requires
-done-requires c κs = search needs
-
 returns : tie.Need-returns
 returns c = search clock-done
-
-refuse-requires : tie.Need-refuse-requires
-refuse-requires c κs = search needs
 
 returns-2 : tie.Need-returns-2
 unfolding outcome check
 returns-2 c = simp (c .refuse .ensures, lt-leb _ _ (c .before .if3 .left), le-leb _ _ (c .before .before .if2 .taken), c .before .before .before .before .if1 .taken, ← c .before .before .before .before .before .is-formed .ensures)
 
-refuse-requires-2 : tie.Need-refuse-requires-2
-refuse-requires-2 c κs = search needs
-
 returns-3 : tie.Need-returns-3
 unfolding outcome check
 returns-3 c = simp (c .refuse2 .ensures, lt-leb _ _ (c .before .if2 .left), c .before .before .before .if1 .taken, ← c .before .before .before .before .is-formed .ensures)
-
-refuse-requires-3 : tie.Need-refuse-requires-3
-refuse-requires-3 c κs = search needs
 
 returns-4 : tie.Need-returns-4
 unfolding outcome check
@@ -40,12 +25,12 @@ pub clock-spec : {M : Type 1} → statement M
 clock-spec =
     tie.close
     (tie.spec
-    is-formed-requires
-    done-requires
+    (λ c κs. search needs)
+    (λ c κs. search needs)
     returns
-    refuse-requires
+    (λ c κs. search needs)
     returns-2
-    refuse-requires-2
+    (λ c κs. search needs)
     returns-3
-    refuse-requires-3
+    (λ c κs. search needs)
     returns-4)

@@ -3,14 +3,11 @@ use borrow.Author.Tests.{lt-ltb, le-ltb}
 use Rattle.service.specs.Settings.{settingsAt}
 use Rattle.service.specs.Records.{recordAt, withRecord}
 use Rattle.rules.specs.Calls.{check, outcome}
-use Rattle.settling.proofs.Formed.{formed-few}
+use Rattle.rules.proofs.Formed.{formed-few}
 use Rattle.events.proofs.Accepted.{end-done}
 use borrow.Author.Needs.{needs}
 use Rattle.events.proofs.end.Statement.{statement}
 use Rattle.events.proofs.end.Tie as tie
-
-is-formed-requires : tie.Need-is-formed-requires
-is-formed-requires c κs = search needs
 
 mul-v : tie.Need-mul-v
 mul-v c = let h = formed-few _ _ _ (c .before .before .is-formed .ensures) (c .before .if1 .taken) in search needs
@@ -24,38 +21,17 @@ mul-r c = let h = formed-few _ _ _ (c .before .before .before .is-formed .ensure
 element-copy-out-r : tie.Need-element-copy-out-r
 element-copy-out-r c = let h = formed-few _ _ _ (c .before .before .before .is-formed .ensures) (c .before .before .if1 .taken) in search needs
 
-end-record-requires : tie.Need-end-record-requires
-end-record-requires c κs = search needs
-
-mul-q : tie.Need-mul-q
-mul-q c = let h = formed-few _ _ _ (c .before .before .before .before .before .before .is-formed .ensures) (c .before .before .before .before .before .if1 .taken) in search needs
-
-element-set-from-q : tie.Need-element-set-from-q
-element-set-from-q c = let h = formed-few _ _ _ (c .before .before .before .before .before .before .is-formed .ensures) (c .before .before .before .before .before .if1 .taken) in search needs
-
-done-requires : tie.Need-done-requires
-done-requires c κs = search needs
-
 returns : tie.Need-returns
 unfolding recordAt settingsAt withRecord
 returns c = search end-done
-
-refuse-requires : tie.Need-refuse-requires
-refuse-requires c κs = search needs
 
 returns-2 : tie.Need-returns-2
 unfolding outcome check recordAt
 returns-2 c = simp (c .refuse .ensures, c .before .if3 .left, lt-ltb _ _ (c .before .before .before .before .if2 .taken), c .before .before .before .before .before .if1 .taken, ← c .before .before .before .before .before .before .is-formed .ensures)
 
-refuse-requires-2 : tie.Need-refuse-requires-2
-refuse-requires-2 c κs = search needs
-
 returns-3 : tie.Need-returns-3
 unfolding outcome check
 returns-3 c = simp (c .refuse2 .ensures, le-ltb _ _ (c .before .if2 .left), c .before .before .if1 .taken, ← c .before .before .before .is-formed .ensures)
-
-refuse-requires-3 : tie.Need-refuse-requires-3
-refuse-requires-3 c κs = search needs
 
 returns-4 : tie.Need-returns-4
 unfolding outcome check
@@ -65,19 +41,19 @@ pub end-spec : {M : Type 1} → statement M
 end-spec =
     tie.close
     (tie.spec
-    is-formed-requires
+    (λ c κs. search needs)
     mul-v
     element-copy-out-v
     mul-r
     element-copy-out-r
-    end-record-requires
-    mul-q
-    element-set-from-q
-    done-requires
+    (λ c κs. search needs)
+    (λ c. let h = formed-few _ _ _ (c .before .before .before .before .before .before .is-formed .ensures) (c .before .before .before .before .before .if1 .taken) in search needs)
+    (λ c. let h = formed-few _ _ _ (c .before .before .before .before .before .before .is-formed .ensures) (c .before .before .before .before .before .if1 .taken) in search needs)
+    (λ c κs. search needs)
     returns
-    refuse-requires
+    (λ c κs. search needs)
     returns-2
-    refuse-requires-2
+    (λ c κs. search needs)
     returns-3
-    refuse-requires-3
+    (λ c κs. search needs)
     returns-4)

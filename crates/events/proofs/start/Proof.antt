@@ -10,7 +10,7 @@ use Rattle.base.proofs.Loops.{Folded, folded-none, folded-more, folded-all}
 use Rattle.service.specs.Records.{recordAt, withRecord}
 use Rattle.rules.specs.Events.{each, startedAs}
 use Rattle.rules.specs.Calls.{check, outcome}
-use Rattle.settling.proofs.Formed.{formed-few}
+use Rattle.rules.proofs.Formed.{formed-few}
 use Rattle.events.proofs.Accepted.{start-done}
 use Rattle.events.proofs.start.Statement.{statement}
 use Rattle.events.proofs.start.Tie as tie
@@ -21,25 +21,13 @@ Inv-loop t s x₀ m i₀ x i = Folded (λ z j. withRecord z j (startedAs (eqb j 
 abbrev μ-loop : tie.MeasureT-loop
 μ-loop t s x₀ m i₀ x i = t .count - i
 
-is-formed-requires : tie.Need-is-formed-requires Inv-loop μ-loop
-is-formed-requires c κs = search needs
-
-refuse-requires : tie.Need-refuse-requires Inv-loop μ-loop
-refuse-requires c κs = search needs
-
 returns : tie.Need-returns Inv-loop μ-loop
 unfolding outcome check
 returns c = simp (c .refuse .ensures, not-true (c .before .before .is-formed .result) .0 (c .before .if1 .taken), ← c .before .before .is-formed .ensures)
 
-refuse-requires-2 : tie.Need-refuse-requires-2 Inv-loop μ-loop
-refuse-requires-2 c κs = search needs
-
 returns-2 : tie.Need-returns-2 Inv-loop μ-loop
 unfolding outcome check
 returns-2 c = simp (c .refuse2 .ensures, le-ltb _ _ (c .before .if2 .taken), not-false (c .before .before .before .before .is-formed .result) .0 (c .before .before .before .if1 .left), ← c .before .before .before .before .is-formed .ensures)
-
-reach-set-requires : tie.Need-reach-set-requires Inv-loop μ-loop
-reach-set-requires c κs = search needs
 
 loop-holds : tie.Need-loop-holds Inv-loop μ-loop
 loop-holds c = folded-none
@@ -50,9 +38,6 @@ mul-r c = let h = formed-few _ _ _ (c .before .before .before .before .before .b
 element-copy-out-r : tie.Need-element-copy-out-r Inv-loop μ-loop
 element-copy-out-r c = let h = formed-few _ _ _ (c .before .before .before .before .before .before .before .is-formed .ensures) (not-false _ .0 (c .before .before .before .before .before .before .if1 .left)) in search needs
 
-start-place-requires : tie.Need-start-place-requires Inv-loop μ-loop
-start-place-requires c κs = search needs
-
 mul-q : tie.Need-mul-q Inv-loop μ-loop
 mul-q c = let h = formed-few _ _ _ (c .before .before .before .before .before .before .before .before .before .is-formed .ensures) (not-false _ .0 (c .before .before .before .before .before .before .before .before .if1 .left)) in search needs
 
@@ -62,15 +47,9 @@ element-set-from-q c = let h = formed-few _ _ _ (c .before .before .before .befo
 add-i : tie.Need-add-i Inv-loop μ-loop
 add-i c = let h = formed-few _ _ _ (c .before .before .before .before .before .before .before .before .before .is-formed .ensures) (not-false _ .0 (c .before .before .before .before .before .before .before .before .if1 .left)) in search needs
 
-loop-less : tie.Need-loop-less Inv-loop μ-loop
-loop-less c = search needs
-
 loop-again : tie.Need-loop-again Inv-loop μ-loop
 unfolding recordAt withRecord
 loop-again c = folded-more (c .before .before .before .before .loop .inv) (c .before .before .if3 .taken) (rw (c .start-place .ensures))
-
-done-requires : tie.Need-done-requires Inv-loop μ-loop
-done-requires c κs = search needs
 
 returns-3 : tie.Need-returns-3 Inv-loop μ-loop
 unfolding each
@@ -82,20 +61,20 @@ start-spec =
     (tie.spec
     Inv-loop
     μ-loop
-    is-formed-requires
-    refuse-requires
+    (λ c κs. search needs)
+    (λ c κs. search needs)
     returns
-    refuse-requires-2
+    (λ c κs. search needs)
     returns-2
-    reach-set-requires
+    (λ c κs. search needs)
     loop-holds
     mul-r
     element-copy-out-r
-    start-place-requires
+    (λ c κs. search needs)
     mul-q
     element-set-from-q
     add-i
-    loop-less
+    (λ c. search needs)
     loop-again
-    done-requires
+    (λ c κs. search needs)
     returns-3)

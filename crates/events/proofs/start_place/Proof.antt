@@ -3,14 +3,8 @@ use borrow.Author.Needs.{needs}
 use Rattle.events.proofs.start_place.Statement.{statement}
 use Rattle.events.proofs.start_place.Tie as tie
 
-has-bit-requires : tie.Need-has-bit-requires
-has-bit-requires c κs = search needs
-
-start-record-requires : tie.Need-start-record-requires
-start-record-requires c κs = search needs
-
 returns : tie.Need-returns
 returns c = rw (c .start-record .ensures, c .before .has-bit .ensures)
 
 pub start-place-spec : {M : Type 1} → statement M
-start-place-spec = tie.close (tie.spec has-bit-requires start-record-requires returns)
+start-place-spec = tie.close (tie.spec (λ c κs. search needs) (λ c κs. search needs) returns)

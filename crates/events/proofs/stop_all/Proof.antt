@@ -7,7 +7,7 @@ use Rattle.base.proofs.Loops.{Folded, folded-none, folded-more, folded-all}
 use Rattle.service.specs.Records.{recordAt, withRecord}
 use Rattle.rules.specs.Events.{each, stopped}
 use Rattle.rules.specs.Calls.{check, outcome}
-use Rattle.settling.proofs.Formed.{formed-few}
+use Rattle.rules.proofs.Formed.{formed-few}
 use Rattle.events.proofs.Accepted.{stop-all-done}
 use Rattle.events.proofs.stop_all.Statement.{statement}
 use Rattle.events.proofs.stop_all.Tie as tie
@@ -17,9 +17,6 @@ Inv-loop t x₀ k₀ x k = Folded (λ z j. withRecord z j (stopped (recordAt z j
 
 abbrev μ-loop : tie.MeasureT-loop
 μ-loop t x₀ k₀ x k = t .count - k
-
-is-formed-requires : tie.Need-is-formed-requires Inv-loop μ-loop
-is-formed-requires c κs = search needs
 
 returns : tie.Need-returns Inv-loop μ-loop
 unfolding outcome check
@@ -34,9 +31,6 @@ mul-r c = let h = formed-few _ _ _ (c .before .before .before .before .is-formed
 element-copy-out-r : tie.Need-element-copy-out-r Inv-loop μ-loop
 element-copy-out-r c = let h = formed-few _ _ _ (c .before .before .before .before .is-formed .ensures) (not-false _ .0 (c .before .before .before .if1 .left)) in search needs
 
-stop-record-requires : tie.Need-stop-record-requires Inv-loop μ-loop
-stop-record-requires c κs = search needs
-
 mul-q : tie.Need-mul-q Inv-loop μ-loop
 mul-q c = let h = formed-few _ _ _ (c .before .before .before .before .before .before .is-formed .ensures) (not-false _ .0 (c .before .before .before .before .before .if1 .left)) in search needs
 
@@ -45,9 +39,6 @@ element-set-from-q c = let h = formed-few _ _ _ (c .before .before .before .befo
 
 add-k : tie.Need-add-k Inv-loop μ-loop
 add-k c = let h = formed-few _ _ _ (c .before .before .before .before .before .before .is-formed .ensures) (not-false _ .0 (c .before .before .before .before .before .if1 .left)) in search needs
-
-loop-less : tie.Need-loop-less Inv-loop μ-loop
-loop-less c = search needs
 
 loop-again : tie.Need-loop-again Inv-loop μ-loop
 unfolding recordAt withRecord
@@ -63,15 +54,15 @@ stop-all-spec =
     (tie.spec
     Inv-loop
     μ-loop
-    is-formed-requires
+    (λ c κs. search needs)
     returns
     loop-holds
     mul-r
     element-copy-out-r
-    stop-record-requires
+    (λ c κs. search needs)
     mul-q
     element-set-from-q
     add-k
-    loop-less
+    (λ c. search needs)
     loop-again
     returns-2)

@@ -4,8 +4,9 @@ use mathlib.Core.Path.{_≡_, refl, sym, ap, _∙_}
 use mathlib.Core.Bool.{_&&_}
 use lib.Dec.{eqb}
 use lib.ListN.{length, drop}
+use Rattle.base.proofs.Tests.{and-none}
 use Rattle.lent.specs.Parts.{risesTo, positioned}
-use Rattle.lent.proofs.Laws.{rises-end, rises-next, and-off}
+use Rattle.lent.proofs.Laws.{rises-end, rises-next}
 use denote.Ref.{now}
 use borrow.Author.Needs.{needs}
 use Rattle.lent.proofs.is_positioned.Statement.{statement}
@@ -23,7 +24,10 @@ loop-again c = c .before .before .before .loop .inv ∙ rises-next _ _ _ _ (c .b
 returns : tie.Need-returns Inv-loop μ-loop
 unfolding positioned
 returns c =
-    sym (and-off (eqb (length (now (c .before .before .before .before .args .ends)) % 2) 0) _ (c .before .before .before .loop .inv ∙ rises-next _ _ _ _ (c .before .before .loop-test .taken) (c .if1 .left)))
+    sym
+    (ap (λ b. eqb (length (now (c .before .before .before .before .args .ends)) % 2) 0 && b)
+    (c .before .before .before .loop .inv ∙ rises-next _ _ _ _ (c .before .before .loop-test .taken) (c .if1 .left))
+    ∙ and-none (eqb (length (now (c .before .before .before .before .args .ends)) % 2) 0))
 
 returns-2 : tie.Need-returns-2 Inv-loop μ-loop
 unfolding positioned

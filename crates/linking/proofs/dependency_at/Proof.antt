@@ -2,6 +2,7 @@
 use mathlib.Core.Path.{_≡_, sym, _∙_}
 use lib.ListN.{length, length-map}
 use Rattle.linking.proofs.Laws.{dependency-past}
+use Rattle.description.specs.Settings.{maxDependencies}
 use borrow.Author.Needs.{needs}
 use Rattle.linking.proofs.dependency_at.Statement.{statement}
 use Rattle.linking.proofs.dependency_at.Tie as tie
@@ -9,7 +10,7 @@ use Rattle.linking.proofs.dependency_at.Tie as tie
 returns-2 : tie.Need-returns-2
 returns-2 c =
     let d = c .before .args .t1 in
-    let n : length (d .dependencies) ≡ 16 = sym (length-map (d .dependencies) _) ∙ c .before .good .0 .1 .1 .1 .1 .0 .1 .0 .1 in
+    let n : length (d .dependencies) ≡ maxDependencies = sym (length-map (d .dependencies) _) ∙ c .before .good .0 .1 .1 .1 .1 .0 .1 .0 .1 in
     sym (dependency-past d _ n (c .if1 .left))
 
 pub dependency-at-spec : {M : Type 1} → statement M

@@ -3,12 +3,13 @@ use borrow.Author.Needs.{needs}
 use Prim.Native.Nat.{_-_}
 use mathlib.Core.Path.{refl}
 use Rattle.base.proofs.Filled.{Filling, filling-none, filling-more, filling-all}
+use Rattle.service.specs.Limits.{maxServices}
 use Rattle.linking.specs.Links.{linksAt}
 use Rattle.linking.proofs.link_rows.Statement.{statement}
 use Rattle.linking.proofs.link_rows.Tie as tie
 
 abbrev Inv-loop : tie.InvT-loop
-Inv-loop n services rows₀ i₀ rows i = Filling 0 (linksAt services) 32 n rows i
+Inv-loop n services rows₀ i₀ rows i = Filling 0 (linksAt services) maxServices n rows i
 
 abbrev μ-loop : tie.MeasureT-loop
 μ-loop n services rows₀ i₀ rows i = n - i

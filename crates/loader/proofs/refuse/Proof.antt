@@ -1,20 +1,13 @@
 -- `refuse` meets its contract.
 use mathlib.Core.Path.{ap}
-use lib.ListN.{replicate}
-use Rattle.service.specs.Limits.{maxServices}
-use Rattle.service.specs.declared.Settings.{Settings}
+use Rattle.service.specs.declared.Table.{Table}
 use Rattle.storing.specs.Tokens.{noCommands}
 use borrow.Author.Needs.{needs}
 use Rattle.loader.proofs.refuse.Statement.{statement}
 use Rattle.loader.proofs.refuse.Tie as tie
 
 returns : tie.Need-returns
-returns c =
-    ap (λ (v : Settings). record { answer = c .before .args .answer; table = record { count = 0; services = replicate maxServices v }; commands = noCommands }) (c .default .ensures)
+returns c = ap (λ (t : Table). record { answer = c .before .args .answer; table = t; commands = noCommands }) (c .empty .ensures)
 
 pub refuse-spec : {M : Type 1} → statement M
-refuse-spec =
-    tie.close
-    (tie.spec
-    (λ c κs. search needs)
-    returns)
+refuse-spec = tie.close (tie.spec (λ c κs. search needs) returns)

@@ -8,15 +8,15 @@ use Rattle.service.specs.Limits.{maxServices}
 use Rattle.lent.specs.Parts.{textAt}
 use Rattle.linking.proofs.Laws.{description-in}
 use Rattle.storing.specs.Tokens.{bytesFrom}
+use Rattle.loader.specs.Short.{mostRoom}
 use Rattle.loader.proofs.Laws.{bytes-end, room-more, text-short}
 use borrow.Author.Needs.{needs}
 use Rattle.loader.proofs.room_for.Statement.{statement}
 use Rattle.loader.proofs.room_for.Tie as tie
 
--- what stands for a description past the end of the array
 abbrev Inv-loop : tie.InvT-loop
 Inv-loop lent ends n ds o₀ j₀ o j =
-    (j ≤ n) × (o ≤ j * 8194)
+    (j ≤ n) × (o ≤ j * mostRoom)
     × (length (bytesFrom (textAt lent ends) ds 0 n) ≡ o + length (bytesFrom (textAt lent ends) ds j (n - j)))
 
 abbrev μ-loop : tie.MeasureT-loop

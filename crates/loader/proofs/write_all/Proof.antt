@@ -1,4 +1,4 @@
--- `write_all` meets its contract.
+-- `write_all` meets its contract: what is left to place and to write, from the place that was reached.
 use Prim.Native.Nat.{ℕ, _-_, _*_, _<_, _≤_}
 use native.Mathlib.Omega.{arith}
 use mathlib.Core.Path.{_≡_, refl, sym, ap, _∙_}
@@ -9,52 +9,64 @@ use Rattle.base.proofs.Lists.{length-mapped}
 use Rattle.service.specs.Limits.{maxServices}
 use Rattle.lent.specs.Parts.{textAt}
 use Rattle.linking.proofs.Laws.{description-in}
-use Rattle.storing.specs.Tokens.{bytesFrom}
-use Rattle.loader.proofs.Laws.{bytes-end, write-more, text-short}
+use Rattle.storing.specs.Tokens.{bytesFrom, commandsFrom}
+use Rattle.loader.specs.Short.{mostRoom}
+use Rattle.loader.proofs.Laws.{bytes-end, commands-end, commands-more, write-more, text-short}
 use borrow.Author.Needs.{needs}
 use Rattle.loader.proofs.write_all.Statement.{statement}
 use Rattle.loader.proofs.write_all.Tie as tie
 
--- what stands for a description past the end of the array
 abbrev Inv-loop : tie.InvT-loop
-Inv-loop lent ends n tokens₀ ds o₀ j₀ tokens o j =
-    (j ≤ n) × (o ≤ j * 8194) × (length tokens ≡ length tokens₀)
+Inv-loop lent ends n tokens₀ ds all₀ o₀ j₀ tokens all o j =
+    (j ≤ n) × (o ≤ j * mostRoom) × (length tokens ≡ length tokens₀)
+    × (commandsFrom (textAt lent ends) ds 0 all₀ 0 n ≡ commandsFrom (textAt lent ends) ds o all j (n - j))
     × (sets tokens₀ 0 (bytesFrom (textAt lent ends) ds 0 n) ≡ sets tokens o (bytesFrom (textAt lent ends) ds j (n - j)))
 
 abbrev μ-loop : tie.MeasureT-loop
-μ-loop lent ends n tokens₀ ds o₀ j₀ tokens o j = n - j
+μ-loop lent ends n tokens₀ ds all₀ o₀ j₀ tokens all o j = n - j
 
 loop-holds : tie.Need-loop-holds Inv-loop μ-loop
-loop-holds c = (search needs, omega arith, refl, let e : c .before .before .before .args .n - 0 ≡ c .before .before .before .args .n = omega arith in rw e)
+loop-holds c =
+    let e : c .before .before .before .args .n - 0 ≡ c .before .before .before .args .n = omega arith in
+    (search needs, omega arith, refl, rw e, rw e)
+
+place-commands-requires : tie.Need-place-commands-requires Inv-loop μ-loop
+place-commands-requires c κs = (
+  text-short (c .before .before .before .before .before .before .before .pre .1) (c .before .before .loop-test .taken) (c .before .text-at .ensures),
+  omega (arith, c .before .before .before .loop .inv .1, c .before .before .loop-test .taken, c .before .before .before .before .before .before .before .pre .0),
+)
 
 write-commands-requires : tie.Need-write-commands-requires Inv-loop μ-loop
 write-commands-requires c κs = (
-  text-short (c .before .before .before .before .before .before .before .before .pre .1) (c .before .before .before .loop-test .taken) (c .before .before .text-at .ensures),
-  omega (arith, c .before .before .before .before .loop .inv .1, c .before .before .before .loop-test .taken, c .before .before .before .before .before .before .before .before .pre .0),
+  text-short (c .before .before .before .before .before .before .before .before .before .pre .1) (c .before .before .before .before .loop-test .taken) (c .before .before .before .text-at .ensures),
+  omega (arith, c .before .before .before .before .before .loop .inv .1, c .before .before .before .before .loop-test .taken, c .before .before .before .before .before .before .before .before .before .pre .0),
 )
 
 room-of-requires : tie.Need-room-of-requires Inv-loop μ-loop
-room-of-requires c κs = text-short (c .before .before .before .before .before .before .before .before .before .before .before .pre .1) (c .before .before .before .before .before .before .loop-test .taken) (c .before .before .before .before .before .text-at .ensures)
+room-of-requires c κs = text-short (c .before .before .before .before .before .before .before .before .before .before .before .before .pre .1) (c .before .before .before .before .before .before .before .loop-test .taken) (c .before .before .before .before .before .before .text-at .ensures)
 
 add-o : tie.Need-add-o Inv-loop μ-loop
-add-o c =
-    record { fits = omega (arith, c .room-of .ensures .1, c .before .before .before .before .before .before .before .before .loop .inv .1, c .before .before .before .before .before .before .before .loop-test .taken, c .before .before .before .before .before .before .before .before .before .before .before .before .pre .0) }
+add-o c = record { fits = omega (arith, c .room-of .ensures .1, c .before .before .before .before .before .before .before .before .before .loop .inv .1, c .before .before .before .before .before .before .before .before .loop-test .taken, c .before .before .before .before .before .before .before .before .before .before .before .before .before .pre .0) }
 
 loop-again : tie.Need-loop-again Inv-loop μ-loop
 loop-again c =
-    let z : length (c .before .before .before .before .before .before .before .before .before .before .before .before .args .t4) ≡ maxServices = search (needs, length-mapped, c .before .before .before .before .before .before .before .before .before .before .before .before .good .1 .1 .1 .0) in
-    let h : c .before .before .before .before .before .before .before .before .loop .j < maxServices = omega (arith, c .before .before .before .before .before .before .before .loop-test .taken, c .before .before .before .before .before .before .before .before .before .before .before .before .pre .0) in (
+    let z : length (c .before .before .before .before .before .before .before .before .before .before .before .before .before .args .t4) ≡ maxServices = search (needs, length-mapped, c .before .before .before .before .before .before .before .before .before .before .before .before .before .good .1 .1 .1 .0) in
+    let h : c .before .before .before .before .before .before .before .before .before .loop .j < maxServices = omega (arith, c .before .before .before .before .before .before .before .before .loop-test .taken, c .before .before .before .before .before .before .before .before .before .before .before .before .before .pre .0) in
+    let d = description-in (c .before .before .before .before .before .before .before .before .before .before .before .before .before .args .t4) _ z h in (
       search needs,
-      omega (arith, c .room-of .ensures .1, c .before .before .before .before .before .before .before .before .loop .inv .1),
+      omega (arith, c .room-of .ensures .1, c .before .before .before .before .before .before .before .before .before .loop .inv .1),
       search needs,
-      c .before .before .before .before .before .before .before .before .loop .inv .3
-          ∙ write-more _ _ _ _ (c .before .before .before .before .before .before .before .loop-test .taken) (c .before .before .before .before .before .before .text-at .ensures) (description-in (c .before .before .before .before .before .before .before .before .before .before .before .before .args .t4) _ z h) _ _ (c .before .before .before .write-commands .ensures) (c .room-of .ensures .0),
+      c .before .before .before .before .before .before .before .before .before .loop .inv .3 ∙ commands-more _ _ _ _ (c .before .before .before .before .before .before .before .before .loop-test .taken) (c .before .before .before .before .before .before .before .text-at .ensures) d _ _ (c .before .before .before .before .before .place-commands .ensures) (c .room-of .ensures .0),
+      c .before .before .before .before .before .before .before .before .before .loop .inv .4 ∙ write-more _ _ _ _ (c .before .before .before .before .before .before .before .before .loop-test .taken) (c .before .before .before .before .before .before .before .text-at .ensures) d _ _ (c .before .before .before .write-commands .ensures) (c .room-of .ensures .0),
     )
 
 returns : tie.Need-returns Inv-loop μ-loop
 returns c =
-    let e : bytesFrom (textAt (c .before .before .before .before .before .args .lent .now) (c .before .before .before .before .before .args .ends .now)) (c .before .before .before .before .before .args .t4) (c .before .loop .j) (c .before .before .before .before .before .args .n - c .before .loop .j) ≡ [] = bytes-end _ _ _ _ (omega (arith, c .loop-test .left)) in
-    sym (c .before .loop .inv .3 ∙ ap (λ (l : List ℕ). sets (c .before .loop .tokens) (c .before .loop .o) l) e)
+    let text = textAt (c .before .before .before .before .before .args .lent .now) (c .before .before .before .before .before .args .ends .now) in
+    let e : bytesFrom text (c .before .before .before .before .before .args .t4) (c .before .loop .j) (c .before .before .before .before .before .args .n - c .before .loop .j) ≡ [] = bytes-end _ _ _ _ (omega (arith, c .loop-test .left)) in (
+      sym (c .before .loop .inv .3 ∙ commands-end _ _ _ _ _ _ (omega (arith, c .loop-test .left))),
+      sym (c .before .loop .inv .4 ∙ ap (λ (l : List ℕ). sets (c .before .loop .tokens) (c .before .loop .o) l) e),
+    )
 
 pub write-all-spec : {M : Type 1} → statement M
 write-all-spec =
@@ -64,6 +76,9 @@ write-all-spec =
     μ-loop
     loop-holds
     (λ c κs. search needs)
+    (λ c. search needs)
+    (λ c. search needs)
+    place-commands-requires
     (λ c. search needs)
     (λ c. search needs)
     write-commands-requires

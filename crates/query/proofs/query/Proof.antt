@@ -13,26 +13,8 @@ Inv-loop t x d₀ i₀ d i = Asking t x d i
 abbrev μ-loop : tie.MeasureT-loop
 μ-loop t x d₀ i₀ d i = t .count - i
 
-is-formed-requires : tie.Need-is-formed-requires Inv-loop μ-loop
-is-formed-requires c κs = search needs
-
 loop-holds : tie.Need-loop-holds Inv-loop μ-loop
 loop-holds c = search asking-none
-
-mul-r : tie.Need-mul-r Inv-loop μ-loop
-mul-r c = search needs
-
-element-copy-out-r : tie.Need-element-copy-out-r Inv-loop μ-loop
-element-copy-out-r c = search needs
-
-with-times-requires : tie.Need-with-times-requires Inv-loop μ-loop
-with-times-requires c κs = search needs
-
-add-i : tie.Need-add-i Inv-loop μ-loop
-add-i c = search needs
-
-loop-less : tie.Need-loop-less Inv-loop μ-loop
-loop-less c = search needs
 
 loop-again : tie.Need-loop-again Inv-loop μ-loop
 unfolding recordAt
@@ -51,13 +33,13 @@ query-spec =
     (tie.spec
     Inv-loop
     μ-loop
-    is-formed-requires
+    (λ c κs. search needs)
     loop-holds
-    mul-r
-    element-copy-out-r
-    with-times-requires
-    add-i
-    loop-less
+    (λ c. search needs)
+    (λ c. search needs)
+    (λ c κs. search needs)
+    (λ c. search needs)
+    (λ c. search needs)
     loop-again
     returns
     returns-2)

@@ -4,12 +4,6 @@ use borrow.Author.Needs.{needs}
 use Rattle.query.proofs.sooner_at.Statement.{statement}
 use Rattle.query.proofs.sooner_at.Tie as tie
 
-enum-told : tie.Need-enum-told
-enum-told c = search needs
-
-enum-known-b : tie.Need-enum-known-b
-enum-known-b c = search needs
-
 returns : tie.Need-returns
 returns c = rw (c .enum-told .given .1)
 
@@ -20,4 +14,4 @@ returns-3 : tie.Need-returns-3
 returns-3 c = simp (lt-leb _ _ (c .if1 .left), c .before .before .b .given .1)
 
 pub sooner-at-spec : {M : Type 1} → statement M
-sooner-at-spec = tie.close (tie.spec enum-told enum-known-b returns returns-2 returns-3)
+sooner-at-spec = tie.close (tie.spec (λ c. search needs) (λ c. search needs) returns returns-2 returns-3)

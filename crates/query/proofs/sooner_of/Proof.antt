@@ -3,15 +3,6 @@ use borrow.Author.Needs.{needs}
 use Rattle.query.proofs.sooner_of.Statement.{statement}
 use Rattle.query.proofs.sooner_of.Tie as tie
 
-enum-told : tie.Need-enum-told
-enum-told c = search needs
-
-enum-known-a : tie.Need-enum-known-a
-enum-known-a c = search needs
-
-sooner-at-requires : tie.Need-sooner-at-requires
-sooner-at-requires c κs = search needs
-
 returns : tie.Need-returns
 returns c = rw (c .enum-told .given .1)
 
@@ -19,4 +10,4 @@ returns-2 : tie.Need-returns-2
 returns-2 c = rw (c .sooner-at .ensures, c .before .before .a .given .1)
 
 pub sooner-of-spec : {M : Type 1} → statement M
-sooner-of-spec = tie.close (tie.spec enum-told enum-known-a sooner-at-requires returns returns-2)
+sooner-of-spec = tie.close (tie.spec (λ c. search needs) (λ c. search needs) (λ c κs. search needs) returns returns-2)

@@ -4,12 +4,6 @@ use borrow.Author.Needs.{needs}
 use Rattle.query.proofs.time_above.Statement.{statement}
 use Rattle.query.proofs.time_above.Tie as tie
 
-enum-told : tie.Need-enum-told
-enum-told c = search needs
-
-enum-known-d : tie.Need-enum-known-d
-enum-known-d c = search needs
-
 returns : tie.Need-returns
 returns c = rw (c .enum-told .given .1)
 
@@ -20,4 +14,4 @@ returns-3 : tie.Need-returns-3
 returns-3 c = simp (le-ltb _ _ (c .if1 .left), c .before .before .d .given .1)
 
 pub time-above-spec : {M : Type 1} → statement M
-time-above-spec = tie.close (tie.spec enum-told enum-known-d returns returns-2 returns-3)
+time-above-spec = tie.close (tie.spec (λ c. search needs) (λ c. search needs) returns returns-2 returns-3)

@@ -4,11 +4,8 @@ use borrow.Author.Needs.{needs}
 use Rattle.reach.proofs.grow.Statement.{statement}
 use Rattle.reach.proofs.grow.Tie as tie
 
-single-of-requires : tie.Need-single-of-requires
-single-of-requires c κs = search needs
-
 returns : tie.Need-returns
 returns c = rw (c .single-of .ensures, lt-ltb _ _ (c .before .pre .0), c .before .pre .1)
 
 pub grow-spec : {M : Type 1} → statement M
-grow-spec = tie.close (tie.spec single-of-requires returns)
+grow-spec = tie.close (tie.spec (λ c κs. search needs) returns)

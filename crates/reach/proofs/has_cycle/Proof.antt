@@ -5,14 +5,8 @@ use borrow.Author.Needs.{needs}
 use Rattle.reach.proofs.has_cycle.Statement.{statement}
 use Rattle.reach.proofs.has_cycle.Tie as tie
 
-peels-requires : tie.Need-peels-requires
-peels-requires c κs = search needs
-
 returns : tie.Need-returns
 returns c = search peeled-none
-
-is-cyclic-requires : tie.Need-is-cyclic-requires
-is-cyclic-requires c κs = search needs
 
 returns-2 : tie.Need-returns-2
 returns-2 c = rw (le-leb _ _ (c .before .before .before .before .if1 .taken)) (c .is-cyclic .ensures)
@@ -21,4 +15,4 @@ returns-3 : tie.Need-returns-3
 returns-3 c = rw (lt-leb _ _ (c .if1 .left))
 
 pub has-cycle-spec : {M : Type 1} → statement M
-has-cycle-spec = tie.close (tie.spec peels-requires returns is-cyclic-requires returns-2 returns-3)
+has-cycle-spec = tie.close (tie.spec (λ c κs. search needs) returns (λ c κs. search needs) returns-2 returns-3)

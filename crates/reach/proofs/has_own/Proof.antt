@@ -16,21 +16,6 @@ abbrev μ-loop : tie.MeasureT-loop
 loop-holds : tie.Need-loop-holds Inv-loop μ-loop
 loop-holds c = folded-none
 
-mul-has-bit : tie.Need-mul-has-bit Inv-loop μ-loop
-mul-has-bit c = search needs
-
-element-copy-out-has-bit : tie.Need-element-copy-out-has-bit Inv-loop μ-loop
-element-copy-out-has-bit c = search needs
-
-has-bit-requires : tie.Need-has-bit-requires Inv-loop μ-loop
-has-bit-requires c κs = search needs
-
-add-i : tie.Need-add-i Inv-loop μ-loop
-add-i c = search needs
-
-loop-less : tie.Need-loop-less Inv-loop μ-loop
-loop-less c = search needs
-
 loop-again : tie.Need-loop-again Inv-loop μ-loop
 loop-again c = search some-more
 
@@ -44,10 +29,10 @@ has-own-spec =
     Inv-loop
     μ-loop
     loop-holds
-    mul-has-bit
-    element-copy-out-has-bit
-    has-bit-requires
-    add-i
-    loop-less
+    (λ c. search needs)
+    (λ c. search needs)
+    (λ c κs. search needs)
+    (λ c. search needs)
+    (λ c. search needs)
     loop-again
     returns)

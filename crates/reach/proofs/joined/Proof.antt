@@ -3,9 +3,6 @@ use borrow.Author.Needs.{needs}
 use Rattle.reach.proofs.joined.Statement.{statement}
 use Rattle.reach.proofs.joined.Tie as tie
 
-has-bit-requires : tie.Need-has-bit-requires
-has-bit-requires c κs = search needs
-
 returns : tie.Need-returns
 returns c = simp (← c .before .has-bit .ensures, c .if1 .taken)
 
@@ -13,4 +10,4 @@ returns-2 : tie.Need-returns-2
 returns-2 c = simp (← c .before .has-bit .ensures, c .if1 .left)
 
 pub joined-spec : {M : Type 1} → statement M
-joined-spec = tie.close (tie.spec has-bit-requires returns returns-2)
+joined-spec = tie.close (tie.spec (λ c κs. search needs) returns returns-2)

@@ -26,12 +26,6 @@ returns c = search peeled-all
 returns-2 : tie.Need-returns-2 Inv-loop μ-loop
 returns-2 c = not-all
 
-add-k : tie.Need-add-k Inv-loop μ-loop
-add-k c = search needs
-
-loop-less : tie.Need-loop-less Inv-loop μ-loop
-loop-less c = search needs
-
 loop-again : tie.Need-loop-again Inv-loop μ-loop
 loop-again c = (omega arith, c .before .before .before .peel .ensures .grounded)
 
@@ -48,7 +42,7 @@ peels-spec =
     peel-requires
     returns
     returns-2
-    add-k
-    loop-less
+    (λ c. search needs)
+    (λ c. search needs)
     loop-again
     returns-3)

@@ -4,9 +4,6 @@ use borrow.Author.Needs.{needs}
 use Rattle.reach.proofs.reach_of.Statement.{statement}
 use Rattle.reach.proofs.reach_of.Tie as tie
 
-spread-requires : tie.Need-spread-requires
-spread-requires c κs = search needs
-
 returns : tie.Need-returns
 returns c = search row-reached
 
@@ -17,4 +14,4 @@ returns-3 : tie.Need-returns-3
 returns-3 c = search row-none
 
 pub reach-of-spec : {M : Type 1} → statement M
-reach-of-spec = tie.close (tie.spec spread-requires returns returns-2 returns-3)
+reach-of-spec = tie.close (tie.spec (λ c κs. search needs) returns returns-2 returns-3)

@@ -14,20 +14,8 @@ Inv-loop n rows s m₀ wider₀ m wider = Spreading rows n s m wider
 abbrev μ-loop : tie.MeasureT-loop
 μ-loop n rows s m₀ wider₀ m wider = reach (rowsAs rows) n s - m
 
-mul-m : tie.Need-mul-m Inv-loop μ-loop
-mul-m c = search needs
-
-element-copy-out-m : tie.Need-element-copy-out-m Inv-loop μ-loop
-element-copy-out-m c = search needs
-
-widened-requires : tie.Need-widened-requires Inv-loop μ-loop
-widened-requires c κs = search needs
-
 loop-holds : tie.Need-loop-holds Inv-loop μ-loop
 loop-holds c = spreading-none refl (c .widened .ensures)
-
-widened-requires-2 : tie.Need-widened-requires-2 Inv-loop μ-loop
-widened-requires-2 c κs = search needs
 
 loop-less : tie.Need-loop-less Inv-loop μ-loop
 loop-less c = spreading-less (c .before .before .loop .inv) (c .before .loop-test .taken)
@@ -44,11 +32,11 @@ spread-spec =
     (tie.spec
     Inv-loop
     μ-loop
-    mul-m
-    element-copy-out-m
-    widened-requires
+    (λ c. search needs)
+    (λ c. search needs)
+    (λ c κs. search needs)
     loop-holds
-    widened-requires-2
+    (λ c κs. search needs)
     loop-less
     loop-again
     returns)

@@ -3,10 +3,6 @@ use mathlib.Core.Path.{_∙_}
 use borrow.Author.Needs.{needs}
 use Rattle.reader.proofs.affect.Statement.{statement}
 use Rattle.reader.proofs.affect.Tie as tie
-use Rattle.reader.proofs.affect.Reads as reads
-use Rattle.reader.proofs.affect.Lts as lts
-use Rattle.reader.proofs.with_dependency.Reads as with-dependency-reads
-use Rattle.reader.proofs.with_setting.Reads as with-setting-reads
 
 returns-2 : tie.Need-returns-2
 returns-2 c = c .with-setting .ensures ∙ rw (c .before .before .e .given .1)

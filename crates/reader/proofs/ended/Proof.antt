@@ -2,9 +2,6 @@
 use borrow.Author.Needs.{needs}
 use Rattle.reader.proofs.ended.Statement.{statement}
 use Rattle.reader.proofs.ended.Tie as tie
-use Rattle.reader.proofs.ended.Reads as reads
-use Rattle.reader.proofs.ended.Lts as lts
-use Rattle.reader.proofs.affect.Reads as affect-reads
 
 returns : tie.Need-returns
 returns c = rw (c .before .before .a .given .1, c .affect .ensures)

@@ -7,11 +7,6 @@ use Rattle.text.proofs.Lines.{Inside}
 use borrow.Author.Needs.{needs}
 use Rattle.reader.proofs.read_line.Statement.{statement}
 use Rattle.reader.proofs.read_line.Tie as tie
-use Rattle.reader.proofs.read_line.Reads as reads
-use Rattle.reader.proofs.read_line.Lts as lts
-use Rattle.reader.proofs.read_property.Reads as read-property-reads
-use Rattle.text.proofs.part.Reads as part-reads
-use Rattle.word.proofs.property.Reads as property-reads
 
 read-property-requires : tie.Need-read-property-requires
 read-property-requires c κs = (c .before .before .before .before .before .before .before .pre .0, subst (Inside (length (now (c .before .before .before .before .before .before .before .args .line)))) (c .before .before .before .o .given .1) (c .before .before .before .before .before .before .before .pre .1))

@@ -14,17 +14,6 @@ use Rattle.reader.proofs.Laws.{read-next, line-inside, opened-inside, r
 use borrow.Author.Needs.{needs}
 use Rattle.reader.proofs.read_lines.Statement.{statement}
 use Rattle.reader.proofs.read_lines.Tie as tie
-use Rattle.reader.proofs.read_lines.Reads as reads
-use Rattle.reader.proofs.read_lines.Lts as lts
-use Rattle.description.proofs.Description.blank.Reads as blank-reads
-use Rattle.description.proofs.complete.Reads as complete-reads
-use Rattle.reader.proofs.affect.Reads as affect-reads
-use Rattle.reader.proofs.ended.Reads as ended-reads
-use Rattle.reader.proofs.read_line.Reads as read-line-reads
-use Rattle.reader.proofs.says_nothing.Reads as says-nothing-reads
-use Rattle.text.proofs.line_end.Reads as line-end-reads
-use Rattle.text.proofs.opening_of.Reads as opening-of-reads
-use Rattle.text.proofs.part.Reads as part-reads
 
 abbrev Inv-loop : tie.InvT-loop
 Inv-loop text d₀ from₀ d from = (from ≤ length text + 1) × (d .count ≤ from) × (linesRead text blank 0 (linesOf text) ≡ linesRead text d from (linesOf (drop from text)))

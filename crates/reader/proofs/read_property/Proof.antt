@@ -11,12 +11,6 @@ use Rattle.description.specs.Lines.{propertyRead}
 use borrow.Author.Needs.{needs}
 use Rattle.reader.proofs.read_property.Statement.{statement}
 use Rattle.reader.proofs.read_property.Tie as tie
-use Rattle.reader.proofs.read_property.Reads as reads
-use Rattle.reader.proofs.read_property.Lts as lts
-use Rattle.description.proofs.read_tokens.Reads as read-tokens-reads
-use Rattle.text.proofs.tail.Reads as tail-reads
-use Rattle.text.proofs.white_end.Reads as white-end-reads
-use Rattle.value.proofs.scan_value.Reads as scan-value-reads
 
 returns : tie.Need-returns
 unfolding propertyRead

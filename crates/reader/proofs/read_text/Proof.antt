@@ -4,11 +4,6 @@ use Rattle.description.specs.Texts.{textRead}
 use borrow.Author.Needs.{needs}
 use Rattle.reader.proofs.read_text.Statement.{statement}
 use Rattle.reader.proofs.read_text.Tie as tie
-use Rattle.reader.proofs.read_text.Reads as reads
-use Rattle.reader.proofs.read_text.Lts as lts
-use Rattle.description.proofs.Description.blank.Reads as blank-reads
-use Rattle.reader.proofs.read_lines.Reads as read-lines-reads
-use Rattle.text.proofs.first_bad.Reads as first-bad-reads
 
 returns : tie.Need-returns
 unfolding textRead

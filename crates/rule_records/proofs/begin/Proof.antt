@@ -3,27 +3,6 @@ use borrow.Author.Needs.{needs}
 use Rattle.rule_records.proofs.begin.Statement.{statement}
 use Rattle.rule_records.proofs.begin.Tie as tie
 
-deadline-in-requires : tie.Need-deadline-in-requires
-deadline-in-requires c κs = search needs
-
-enum-told : tie.Need-enum-told
-enum-told c = search needs
-
-launched-requires : tie.Need-launched-requires
-launched-requires c κs = search needs
-
-enum-told-2 : tie.Need-enum-told-2
-enum-told-2 c = search needs
-
-launched-requires-2 : tie.Need-launched-requires-2
-launched-requires-2 c κs = search needs
-
-enum-told-3 : tie.Need-enum-told-3
-enum-told-3 c = search needs
-
-launched-requires-3 : tie.Need-launched-requires-3
-launched-requires-3 c κs = search needs
-
 returns : tie.Need-returns
 returns c = rw (c .launched .ensures, c .before .enum-told .given .1)
 
@@ -37,13 +16,13 @@ pub begin-spec : {M : Type 1} → statement M
 begin-spec =
     tie.close
     (tie.spec
-    deadline-in-requires
-    enum-told
-    launched-requires
-    enum-told-2
-    launched-requires-2
-    enum-told-3
-    launched-requires-3
+    (λ c κs. search needs)
+    (λ c. search needs)
+    (λ c κs. search needs)
+    (λ c. search needs)
+    (λ c κs. search needs)
+    (λ c. search needs)
+    (λ c κs. search needs)
     returns
     returns-2
     returns-3)

@@ -7,11 +7,8 @@ use Rattle.rule_records.proofs.deadline_in.Tie as tie
 returns : tie.Need-returns
 returns c = rw (eq-eqb _ _ (c .if1 .taken))
 
-add-t4 : tie.Need-add-t4
-add-t4 c = search needs
-
 returns-2 : tie.Need-returns-2
 returns-2 c = rw (ne-eqb _ _ (c .if1 .left))
 
 pub deadline-in-spec : {M : Type 1} → statement M
-deadline-in-spec = tie.close (tie.spec returns add-t4 returns-2)
+deadline-in-spec = tie.close (tie.spec returns (λ c. search needs) returns-2)

@@ -5,9 +5,6 @@ use borrow.Author.Needs.{needs}
 use Rattle.rule_records.proofs.leave.Statement.{statement}
 use Rattle.rule_records.proofs.leave.Tie as tie
 
-is-sound-requires : tie.Need-is-sound-requires
-is-sound-requires c κs = search needs
-
 leave-sound-requires : tie.Need-leave-sound-requires
 leave-sound-requires c κs = (sound-facts (c .before .is-sound .ensures) (c .if1 .taken), sym (c .before .is-sound .ensures) ∙ c .if1 .taken)
 
@@ -18,4 +15,4 @@ returns-2 : tie.Need-returns-2
 returns-2 c = simp (c .if1 .left, ← c .before .is-sound .ensures)
 
 pub leave-spec : {M : Type 1} → statement M
-leave-spec = tie.close (tie.spec is-sound-requires leave-sound-requires returns returns-2)
+leave-spec = tie.close (tie.spec (λ c κs. search needs) leave-sound-requires returns returns-2)

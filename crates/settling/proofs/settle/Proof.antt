@@ -4,9 +4,6 @@ use borrow.Author.Needs.{needs}
 use Rattle.settling.proofs.settle.Statement.{statement}
 use Rattle.settling.proofs.settle.Tie as tie
 
-is-sound-requires : tie.Need-is-sound-requires
-is-sound-requires c κs = search needs
-
 settle-sound-requires : tie.Need-settle-sound-requires
 settle-sound-requires c κs = search sound-facts
 
@@ -17,4 +14,4 @@ returns-2 : tie.Need-returns-2
 returns-2 c = simp (← c .before .is-sound .ensures, c .if1 .left)
 
 pub settle-spec : {M : Type 1} → statement M
-settle-spec = tie.close (tie.spec is-sound-requires settle-sound-requires returns returns-2)
+settle-spec = tie.close (tie.spec (λ c κs. search needs) settle-sound-requires returns returns-2)

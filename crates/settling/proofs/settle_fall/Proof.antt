@@ -3,21 +3,6 @@ use borrow.Author.Needs.{needs}
 use Rattle.settling.proofs.settle_fall.Statement.{statement}
 use Rattle.settling.proofs.settle_fall.Tie as tie
 
-sub-over : tie.Need-sub-over
-sub-over c = search needs
-
-window-count-requires : tie.Need-window-count-requires
-window-count-requires c κs = search needs
-
-add-either-number : tie.Need-add-either-number
-add-either-number c = search needs
-
-either-number-requires : tie.Need-either-number-requires
-either-number-requires c κs = search needs
-
-either-number-requires-2 : tie.Need-either-number-requires-2
-either-number-requires-2 c κs = search needs
-
 next-count-requires : tie.Need-next-count-requires
 next-count-requires c κs = c .before .before .before .before .before .before .before .before .before .before .window-count .ensures .1
 
@@ -28,10 +13,10 @@ pub settle-fall-spec : {M : Type 1} → statement M
 settle-fall-spec =
     tie.close
     (tie.spec
-    sub-over
-    window-count-requires
-    add-either-number
-    either-number-requires
-    either-number-requires-2
+    (λ c. search needs)
+    (λ c κs. search needs)
+    (λ c. search needs)
+    (λ c κs. search needs)
+    (λ c κs. search needs)
     next-count-requires
     returns)

@@ -3,36 +3,6 @@ use borrow.Author.Needs.{needs}
 use Rattle.settling.proofs.settle_sound.Statement.{statement}
 use Rattle.settling.proofs.settle_sound.Tie as tie
 
-enum-told : tie.Need-enum-told
-enum-told c = search needs
-
-at-rest-requires : tie.Need-at-rest-requires
-at-rest-requires c κs = search needs
-
-enum-told-2 : tie.Need-enum-told-2
-enum-told-2 c = search needs
-
-at-rest-requires-2 : tie.Need-at-rest-requires-2
-at-rest-requires-2 c κs = search needs
-
-enum-told-3 : tie.Need-enum-told-3
-enum-told-3 c = search needs
-
-at-rest-requires-3 : tie.Need-at-rest-requires-3
-at-rest-requires-3 c κs = search needs
-
-enum-told-4 : tie.Need-enum-told-4
-enum-told-4 c = search needs
-
-settle-fall-requires : tie.Need-settle-fall-requires
-settle-fall-requires c κs = search needs
-
-enum-told-5 : tie.Need-enum-told-5
-enum-told-5 c = search needs
-
-at-rest-requires-4 : tie.Need-at-rest-requires-4
-at-rest-requires-4 c κs = search needs
-
 returns : tie.Need-returns
 returns c = rw (c .at-rest .ensures, c .before .enum-told .given .1)
 
@@ -52,16 +22,16 @@ pub settle-sound-spec : {M : Type 1} → statement M
 settle-sound-spec =
     tie.close
     (tie.spec
-    enum-told
-    at-rest-requires
-    enum-told-2
-    at-rest-requires-2
-    enum-told-3
-    at-rest-requires-3
-    enum-told-4
-    settle-fall-requires
-    enum-told-5
-    at-rest-requires-4
+    (λ c. search needs)
+    (λ c κs. search needs)
+    (λ c. search needs)
+    (λ c κs. search needs)
+    (λ c. search needs)
+    (λ c κs. search needs)
+    (λ c. search needs)
+    (λ c κs. search needs)
+    (λ c. search needs)
+    (λ c κs. search needs)
     returns
     returns-2
     returns-3

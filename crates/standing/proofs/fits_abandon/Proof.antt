@@ -3,18 +3,9 @@ use borrow.Author.Needs.{needs}
 use Rattle.standing.proofs.fits_abandon.Statement.{statement}
 use Rattle.standing.proofs.fits_abandon.Tie as tie
 
-is-waiting-requires : tie.Need-is-waiting-requires
-is-waiting-requires c κs = search needs
-
-strong-links-requires : tie.Need-strong-links-requires
-strong-links-requires c κs = search needs
-
-overlaps-requires : tie.Need-overlaps-requires
-overlaps-requires c κs = search needs
-
 returns : tie.Need-returns
 returns c = cc
 
 pub fits-abandon-spec : {M : Type 1} → statement M
 fits-abandon-spec =
-    tie.close (tie.spec is-waiting-requires strong-links-requires overlaps-requires returns)
+    tie.close (tie.spec (λ c κs. search needs) (λ c κs. search needs) (λ c κs. search needs) returns)

@@ -4,12 +4,6 @@ use borrow.Author.Needs.{needs}
 use Rattle.standing.proofs.is_due.Statement.{statement}
 use Rattle.standing.proofs.is_due.Tie as tie
 
-enum-told : tie.Need-enum-told
-enum-told c = search needs
-
-enum-known-d : tie.Need-enum-known-d
-enum-known-d c = search needs
-
 returns : tie.Need-returns
 unfolding due
 returns c = rw (c .enum-told .given .1)
@@ -19,4 +13,4 @@ unfolding due
 returns-2 c = rw (c .before .d .given .1)
 
 pub is-due-spec : {M : Type 1} → statement M
-is-due-spec = tie.close (tie.spec enum-told enum-known-d returns returns-2)
+is-due-spec = tie.close (tie.spec (λ c. search needs) (λ c. search needs) returns returns-2)

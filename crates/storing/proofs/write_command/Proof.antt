@@ -12,11 +12,11 @@ returns c = no-command _ _ _ _ (c .if1 .taken)
 
 returns-2 : tie.Need-returns-2
 returns-2 c =
-    put-command _ _ (c .before .before .before .before .before .before .before .before .before .args .buffer .now) (c .before .before .before .before .before .before .before .before .before .args .o) (c .before .before .before .before .before .before .if1 .left) (c .before .before .before .before .value-at .ensures) (c .before .before .before .before .before .if2 .taken) (c .before .before .write-value .ensures .buffer)
+    put-command _ _ (c .before .before .before .before .before .before .before .before .before .args .buffer .now) (c .before .before .before .before .before .before .before .before .before .args .place) (c .before .before .before .before .before .before .if1 .left) (c .before .before .before .before .value-at .ensures) (c .before .before .before .before .before .if2 .taken) (c .before .before .write-value .ensures .buffer)
 
 returns-3 : tie.Need-returns-3
 returns-3 c =
-    let h : length (c .before .before .before .before .args .buffer .now) ≤ c .before .before .before .before .args .o = omega (arith, c .if2 .left) in
+    let h : length (c .before .before .before .before .args .buffer .now) ≤ c .before .before .before .before .args .place = omega (arith, c .if2 .left) in
     past-command _ _ _ _ h
 
 pub write-command-spec : {M : Type 1} → statement M

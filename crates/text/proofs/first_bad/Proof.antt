@@ -8,9 +8,6 @@ use Rattle.text.proofs.Runs.{bad-end, bad-next}
 use borrow.Author.Needs.{needs}
 use Rattle.text.proofs.first_bad.Statement.{statement}
 use Rattle.text.proofs.first_bad.Tie as tie
-use Rattle.text.proofs.first_bad.Reads as reads
-use Rattle.text.proofs.first_bad.Lts as lts
-use Rattle.text.proofs.is_bad.Reads as is-bad-reads
 
 abbrev Inv-loop : tie.InvT-loop
 Inv-loop s i₀ found₀ i found = (i₀ ≤ i) × (i ≤ length s) × (found ≡ Good) × (badFrom 0 s ≡ badFrom i (drop i s))

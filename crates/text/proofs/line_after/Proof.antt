@@ -7,8 +7,6 @@ use Rattle.text.proofs.Runs.{line-end, line-next}
 use borrow.Author.Needs.{needs}
 use Rattle.text.proofs.line_after.Statement.{statement}
 use Rattle.text.proofs.line_after.Tie as tie
-use Rattle.text.proofs.line_after.Reads as reads
-use Rattle.text.proofs.line_after.Lts as lts
 
 abbrev Inv-loop : tie.InvT-loop
 Inv-loop s line₀ i₀ line i = (i ≤ length s) × (line ≤ i + 1) × (lineFrom 1 s ≡ lineFrom line (drop i s))

@@ -9,8 +9,6 @@ use Rattle.text.proofs.Lines.{line-none, line-more}
 use borrow.Author.Needs.{needs}
 use Rattle.text.proofs.line_end.Statement.{statement}
 use Rattle.text.proofs.line_end.Tie as tie
-use Rattle.text.proofs.line_end.Reads as reads
-use Rattle.text.proofs.line_end.Lts as lts
 
 abbrev Inv-loop : tie.InvT-loop
 Inv-loop s i e₀ e = i + length (lineOf (drop i s)) ≡ e + length (lineOf (drop e s))

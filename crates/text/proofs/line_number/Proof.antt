@@ -6,10 +6,6 @@ use Rattle.text.specs.Lines.{lineFrom, lineNumber}
 use borrow.Author.Needs.{needs}
 use Rattle.text.proofs.line_number.Statement.{statement}
 use Rattle.text.proofs.line_number.Tie as tie
-use Rattle.text.proofs.line_number.Reads as reads
-use Rattle.text.proofs.line_number.Lts as lts
-use Rattle.text.proofs.line_after.Reads as line-after-reads
-use Rattle.text.proofs.part.Reads as part-reads
 
 returns : tie.Need-returns
 unfolding lineNumber

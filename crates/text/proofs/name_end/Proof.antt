@@ -9,9 +9,6 @@ use Rattle.text.proofs.Runs.{run-end, run-next}
 use borrow.Author.Needs.{needs}
 use Rattle.text.proofs.name_end.Statement.{statement}
 use Rattle.text.proofs.name_end.Tie as tie
-use Rattle.text.proofs.name_end.Reads as reads
-use Rattle.text.proofs.name_end.Lts as lts
-use Rattle.text.proofs.is_property_byte.Reads as is-property-byte-reads
 
 abbrev Inv-loop : tie.InvT-loop
 Inv-loop s i e₀ e = i + run isPropertyByte (drop i s) ≡ e + run isPropertyByte (drop e s)

@@ -8,12 +8,6 @@ use Rattle.text.proofs.Lines.{opening-found}
 use borrow.Author.Needs.{needs}
 use Rattle.text.proofs.opening_of.Statement.{statement}
 use Rattle.text.proofs.opening_of.Tie as tie
-use Rattle.text.proofs.opening_of.Reads as reads
-use Rattle.text.proofs.opening_of.Lts as lts
-use Rattle.text.proofs.byte_at.Reads as byte-at-reads
-use Rattle.text.proofs.is_sign.Reads as is-sign-reads
-use Rattle.text.proofs.name_end.Reads as name-end-reads
-use Rattle.text.proofs.white_end.Reads as white-end-reads
 
 add-value : tie.Need-add-value
 add-value c =

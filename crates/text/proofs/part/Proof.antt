@@ -4,8 +4,6 @@ use Rattle.text.specs.Strings.{partOf}
 use borrow.Author.Needs.{needs}
 use Rattle.text.proofs.part.Statement.{statement}
 use Rattle.text.proofs.part.Tie as tie
-use Rattle.text.proofs.part.Reads as reads
-use Rattle.text.proofs.part.Lts as lts
 
 returns : tie.Need-returns
 unfolding partOf

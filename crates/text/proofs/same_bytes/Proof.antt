@@ -8,8 +8,6 @@ use Rattle.text.proofs.Strings.{same-long, same-end, same-next}
 use borrow.Author.Needs.{needs}
 use Rattle.text.proofs.same_bytes.Statement.{statement}
 use Rattle.text.proofs.same_bytes.Tie as tie
-use Rattle.text.proofs.same_bytes.Reads as reads
-use Rattle.text.proofs.same_bytes.Lts as lts
 
 abbrev Inv-loop : tie.InvT-loop
 Inv-loop a b fit i₀ i = (i ≤ length a) × (length a ≡ length b) × (same a b ≡ same (drop i a) (drop i b))

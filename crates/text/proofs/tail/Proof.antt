@@ -8,19 +8,17 @@ use denote.Ref.{now}
 use borrow.Author.Needs.{needs}
 use Rattle.text.proofs.tail.Statement.{statement}
 use Rattle.text.proofs.tail.Tie as tie
-use Rattle.text.proofs.tail.Reads as reads
-use Rattle.text.proofs.tail.Lts as lts
 
 returns : tie.Need-returns
 returns c =
-    let l = now (c .before .before .args .l) in
-    let h : length (drop (c .before .before .args .a) l) ≤ length l - c .before .before .args .a = omega (arith, length-drop (c .before .before .args .a) l) in
-    take-all (length l - c .before .before .args .a) (drop (c .before .before .args .a) l) h
+    let l = now (c .before .before .args .s) in
+    let h : length (drop (c .before .before .args .from) l) ≤ length l - c .before .before .args .from = omega (arith, length-drop (c .before .before .args .from) l) in
+    take-all (length l - c .before .before .args .from) (drop (c .before .before .args .from) l) h
 
 returns-2 : tie.Need-returns-2
 returns-2 c =
-    let h : length (now (c .before .before .args .l)) ≤ c .before .before .args .a = omega arith in
-    sym (drop-of-length-le (now (c .before .before .args .l)) h)
+    let h : length (now (c .before .before .args .s)) ≤ c .before .before .args .from = omega arith in
+    sym (drop-of-length-le (now (c .before .before .args .s)) h)
 
 pub tail-spec : {M : Type 1} → statement M
 tail-spec =

@@ -9,9 +9,6 @@ use Rattle.text.proofs.Runs.{run-end, run-next}
 use borrow.Author.Needs.{needs}
 use Rattle.text.proofs.white_end.Statement.{statement}
 use Rattle.text.proofs.white_end.Tie as tie
-use Rattle.text.proofs.white_end.Reads as reads
-use Rattle.text.proofs.white_end.Lts as lts
-use Rattle.text.proofs.is_white.Reads as is-white-reads
 
 abbrev Inv-loop : tie.InvT-loop
 Inv-loop s i e₀ e = i + run isWhite (drop i s) ≡ e + run isWhite (drop e s)

@@ -4,9 +4,6 @@ use Rattle.value.specs.Steps.{bareStep}
 use borrow.Author.Needs.{needs}
 use Rattle.value.proofs.bare_step.Statement.{statement}
 use Rattle.value.proofs.bare_step.Tie as tie
-use Rattle.value.proofs.bare_step.Reads as reads
-use Rattle.value.proofs.bare_step.Lts as lts
-use Rattle.text.proofs.is_white.Reads as is-white-reads
 
 returns : tie.Need-returns
 unfolding bareStep

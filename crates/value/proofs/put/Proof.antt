@@ -4,8 +4,6 @@ use lib.Seq.{set-out}
 use borrow.Author.Needs.{needs}
 use Rattle.value.proofs.put.Statement.{statement}
 use Rattle.value.proofs.put.Tie as tie
-use Rattle.value.proofs.put.Reads as reads
-use Rattle.value.proofs.put.Lts as lts
 
 returns-2 : tie.Need-returns-2
 returns-2 c = record { buffer = sym (set-out _ _ _ (c .if1 .left)); next = search needs }

@@ -1,8 +1,6 @@
 -- `quote_step` meets its contract.
 use Rattle.value.proofs.quote_step.Statement.{statement}
 use Rattle.value.proofs.quote_step.Tie as tie
-use Rattle.value.proofs.quote_step.Reads as reads
-use Rattle.value.proofs.quote_step.Lts as lts
 
 returns : tie.Need-returns
 returns c = rw (c .if1 .taken)

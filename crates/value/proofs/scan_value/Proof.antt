@@ -11,12 +11,6 @@ use Rattle.value.proofs.Scans.{scanFrom, scan-end, scan-next, Fits, fit
 use borrow.Author.Needs.{needs}
 use Rattle.value.proofs.scan_value.Statement.{statement}
 use Rattle.value.proofs.scan_value.Tie as tie
-use Rattle.value.proofs.scan_value.Reads as reads
-use Rattle.value.proofs.scan_value.Lts as lts
-use Rattle.value.proofs.before.Reads as before-reads
-use Rattle.value.proofs.step_at.Reads as step-at-reads
-use Rattle.value.proofs.with_byte.Reads as with-byte-reads
-use Rattle.value.proofs.with_end.Reads as with-end-reads
 
 abbrev Inv-loop : tie.InvT-loop
 Inv-loop s m₀ z₀ quote₀ i₀ m z quote i = (i ≤ length s) × Fits z i × (scanFrom between 0 0 noSizes s ≡ scanFrom m quote i z (drop i s))
@@ -49,24 +43,12 @@ loop-again-3 c = (search needs, fits-byte (c .before .before .before .before .be
 loop-again-4 : tie.Need-loop-again-4 Inv-loop μ-loop
 loop-again-4 c = (search needs, fits-end (c .before .before .before .before .before .before .before .loop .inv .1) (c .with-end .ensures), c .before .before .before .before .before .before .before .loop .inv .2 ∙ scan-next _ _ _ _ _ _ (c .before .before .before .before .before .before .loop-test .taken) (sym (c .before .before .before .before .step-at .ensures) ∙ c .before .before .k4 .given .1) ∙ ap (λ (z : Sizes). scanFrom (c .before .before .k4 .given .0 .0) (c .before .before .before .before .before .before .before .loop .quote) (c .before .before .before .before .before .before .before .loop .i + 1) z (drop (c .before .before .before .before .before .before .before .loop .i + 1) (now (c .before .before .before .before .before .before .before .before .before .args .s)))) (sym (c .with-end .ensures)))
 
+ended-requires : tie.Need-ended-requires Inv-loop μ-loop
+ended-requires c κs = (omega (arith, c .before .loop .inv .1 .room), c .before .loop .inv .1 .tokens)
+
 returns-2 : tie.Need-returns-2 Inv-loop μ-loop
 unfolding scanOf
-returns-2 c = sym (c .before .before .before .loop .inv .2 ∙ scan-end _ _ _ _ _ _ (c .before .before .loop-test .left) ∙ rw (c .before .if1 .taken, c .before2 .ensures))
-
-returns-3 : tie.Need-returns-3 Inv-loop μ-loop
-unfolding scanOf
-returns-3 c = sym (c .before .before .before .loop .inv .2 ∙ scan-end _ _ _ _ _ _ (c .before .before .loop-test .left) ∙ rw (c .before .if1 .left, c .if2 .taken))
-
-with-end-requires-2 : tie.Need-with-end-requires-2 Inv-loop μ-loop
-with-end-requires-2 c κs = (omega (arith, c .before .before .before .before .loop .inv .1 .room), c .before .before .before .before .loop .inv .1 .tokens)
-
-returns-4 : tie.Need-returns-4 Inv-loop μ-loop
-unfolding scanOf
-returns-4 c = sym (c .before .before .before .before .before .loop .inv .2 ∙ scan-end _ _ _ _ _ _ (c .before .before .before .before .loop-test .left) ∙ rw (c .before .before .before .if1 .left, c .before .before .if2 .left, c .before .if3 .taken, c .with-end2 .ensures))
-
-returns-5 : tie.Need-returns-5 Inv-loop μ-loop
-unfolding scanOf
-returns-5 c = sym (c .before .before .before .before .loop .inv .2 ∙ scan-end _ _ _ _ _ _ (c .before .before .before .loop-test .left) ∙ rw (c .before .before .if1 .left, c .before .if2 .left, c .if3 .left))
+returns-2 c = sym (c .before .before .loop .inv .2 ∙ scan-end _ _ _ _ _ _ (c .before .loop-test .left) ∙ sym (c .ended .ensures))
 
 pub scan-value-spec : {M : Type 1} → statement M
 scan-value-spec =
@@ -94,9 +76,5 @@ scan-value-spec =
     loop-again-3
     (λ c. search needs)
     loop-again-4
-    (λ c κs. search needs)
-    returns-2
-    returns-3
-    with-end-requires-2
-    returns-4
-    returns-5)
+    ended-requires
+    returns-2)

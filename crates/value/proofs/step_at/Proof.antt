@@ -4,10 +4,6 @@ use Rattle.value.specs.Steps.{stepOf}
 use borrow.Author.Needs.{needs}
 use Rattle.value.proofs.step_at.Statement.{statement}
 use Rattle.value.proofs.step_at.Tie as tie
-use Rattle.value.proofs.step_at.Reads as reads
-use Rattle.value.proofs.step_at.Lts as lts
-use Rattle.value.proofs.bare_step.Reads as bare-step-reads
-use Rattle.value.proofs.quote_step.Reads as quote-step-reads
 
 returns : tie.Need-returns
 unfolding stepOf

@@ -2,8 +2,6 @@
 use borrow.Author.Needs.{needs}
 use Rattle.value.proofs.with_byte.Statement.{statement}
 use Rattle.value.proofs.with_byte.Tie as tie
-use Rattle.value.proofs.with_byte.Reads as reads
-use Rattle.value.proofs.with_byte.Lts as lts
 
 returns : tie.Need-returns
 returns c = rw (c .if1 .taken)

@@ -10,10 +10,6 @@ use Rattle.value.proofs.Writing.{Left, begin, follow, stored, ends}
 use borrow.Author.Needs.{needs}
 use Rattle.value.proofs.write_word.Statement.{statement}
 use Rattle.value.proofs.write_word.Tie as tie
-use Rattle.value.proofs.write_word.Reads as reads
-use Rattle.value.proofs.write_word.Lts as lts
-use Rattle.value.proofs.put.Reads as put-reads
-use Rattle.value.proofs.step_at.Reads as step-at-reads
 
 abbrev Inv-loop : tie.InvT-loop
 Inv-loop s dst₀ m₀ o₀ i₀ dst m o i = (i ≤ length s) × (o ≤ i) × Left dst₀ 0 (wordFrom between 0 s) dst o (wordFrom m o (drop i s))

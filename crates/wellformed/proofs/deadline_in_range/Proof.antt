@@ -3,17 +3,8 @@ use borrow.Author.Needs.{needs}
 use Rattle.wellformed.proofs.deadline_in_range.Statement.{statement}
 use Rattle.wellformed.proofs.deadline_in_range.Tie as tie
 
-enum-told : tie.Need-enum-told
-enum-told c = search needs
-
-enum-known-d : tie.Need-enum-known-d
-enum-known-d c = search needs
-
-returns : tie.Need-returns
-returns c = search needs
-
 returns-2 : tie.Need-returns-2
 returns-2 c = rw (c .before .d .given .1)
 
 pub deadline-in-range-spec : {M : Type 1} → statement M
-deadline-in-range-spec = tie.close (tie.spec enum-told enum-known-d returns returns-2)
+deadline-in-range-spec = tie.close (tie.spec (λ c. search needs) (λ c. search needs) (λ c. search needs) returns-2)

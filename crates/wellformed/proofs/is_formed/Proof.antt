@@ -30,27 +30,6 @@ returns c = search not-formed
 loop-holds : tie.Need-loop-holds Inv-loop μ-loop Inv-loop2 μ-loop2
 loop-holds c = filling-none (c .if1 .left) refl
 
-mul-v : tie.Need-mul-v Inv-loop μ-loop Inv-loop2 μ-loop2
-mul-v c = search needs
-
-element-copy-out-v : tie.Need-element-copy-out-v Inv-loop μ-loop Inv-loop2 μ-loop2
-element-copy-out-v c = search needs
-
-all-links-requires : tie.Need-all-links-requires Inv-loop μ-loop Inv-loop2 μ-loop2
-all-links-requires c κs = search needs
-
-mul-rows : tie.Need-mul-rows Inv-loop μ-loop Inv-loop2 μ-loop2
-mul-rows c = search needs
-
-array-write-rows : tie.Need-array-write-rows Inv-loop μ-loop Inv-loop2 μ-loop2
-array-write-rows c = search needs
-
-add-i : tie.Need-add-i Inv-loop μ-loop Inv-loop2 μ-loop2
-add-i c = search needs
-
-loop-less : tie.Need-loop-less Inv-loop μ-loop Inv-loop2 μ-loop2
-loop-less c = search needs
-
 loop-again : tie.Need-loop-again Inv-loop μ-loop Inv-loop2 μ-loop2
 unfolding settingsAt allLinks
 loop-again c = search filling-more
@@ -58,33 +37,9 @@ loop-again c = search filling-more
 loop2-holds : tie.Need-loop2-holds Inv-loop μ-loop Inv-loop2 μ-loop2
 loop2-holds c = folded-none
 
-mul-v-2 : tie.Need-mul-v-2 Inv-loop μ-loop Inv-loop2 μ-loop2
-mul-v-2 c = search needs
-
-element-copy-out-v-2 : tie.Need-element-copy-out-v-2 Inv-loop μ-loop Inv-loop2 μ-loop2
-element-copy-out-v-2 c = search needs
-
-mul-r : tie.Need-mul-r Inv-loop μ-loop Inv-loop2 μ-loop2
-mul-r c = search needs
-
-element-copy-out-r : tie.Need-element-copy-out-r Inv-loop μ-loop Inv-loop2 μ-loop2
-element-copy-out-r c = search needs
-
-place-formed-requires : tie.Need-place-formed-requires Inv-loop μ-loop Inv-loop2 μ-loop2
-place-formed-requires c κs = search needs
-
-add-s : tie.Need-add-s Inv-loop μ-loop Inv-loop2 μ-loop2
-add-s c = search needs
-
-loop2-less : tie.Need-loop2-less Inv-loop μ-loop Inv-loop2 μ-loop2
-loop2-less c = search needs
-
 loop2-again : tie.Need-loop2-again Inv-loop μ-loop Inv-loop2 μ-loop2
 unfolding settingsAt recordAt
 loop2-again c = search every-more
-
-has-cycle-requires : tie.Need-has-cycle-requires Inv-loop μ-loop Inv-loop2 μ-loop2
-has-cycle-requires c κs = search needs
 
 returns-2 : tie.Need-returns-2 Inv-loop μ-loop Inv-loop2 μ-loop2
 returns-2 c = formed-found
@@ -108,22 +63,22 @@ is-formed-spec =
     μ-loop2
     returns
     loop-holds
-    mul-v
-    element-copy-out-v
-    all-links-requires
-    mul-rows
-    array-write-rows
-    add-i
-    loop-less
+    (λ c. search needs)
+    (λ c. search needs)
+    (λ c κs. search needs)
+    (λ c. search needs)
+    (λ c. search needs)
+    (λ c. search needs)
+    (λ c. search needs)
     loop-again
     loop2-holds
-    mul-v-2
-    element-copy-out-v-2
-    mul-r
-    element-copy-out-r
-    place-formed-requires
-    add-s
-    loop2-less
+    (λ c. search needs)
+    (λ c. search needs)
+    (λ c. search needs)
+    (λ c. search needs)
+    (λ c κs. search needs)
+    (λ c. search needs)
+    (λ c. search needs)
     loop2-again
-    has-cycle-requires
+    (λ c κs. search needs)
     returns-2)

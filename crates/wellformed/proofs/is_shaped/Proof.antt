@@ -3,48 +3,6 @@ use borrow.Author.Needs.{needs}
 use Rattle.wellformed.proofs.is_shaped.Statement.{statement}
 use Rattle.wellformed.proofs.is_shaped.Tie as tie
 
-enum-told : tie.Need-enum-told
-enum-told c = search needs
-
-is-none-requires : tie.Need-is-none-requires
-is-none-requires c κs = search needs
-
-enum-told-2 : tie.Need-enum-told-2
-enum-told-2 c = search needs
-
-is-none-requires-2 : tie.Need-is-none-requires-2
-is-none-requires-2 c κs = search needs
-
-enum-told-3 : tie.Need-enum-told-3
-enum-told-3 c = search needs
-
-is-scripted-requires : tie.Need-is-scripted-requires
-is-scripted-requires c κs = search needs
-
-enum-told-4 : tie.Need-enum-told-4
-enum-told-4 c = search needs
-
-is-process-requires : tie.Need-is-process-requires
-is-process-requires c κs = search needs
-
-implied-requires : tie.Need-implied-requires
-implied-requires c κs = search needs
-
-is-none-requires-3 : tie.Need-is-none-requires-3
-is-none-requires-3 c κs = search needs
-
-is-process-requires-2 : tie.Need-is-process-requires-2
-is-process-requires-2 c κs = search needs
-
-implied-requires-2 : tie.Need-implied-requires-2
-implied-requires-2 c κs = search needs
-
-enum-told-5 : tie.Need-enum-told-5
-enum-told-5 c = search needs
-
-is-none-requires-4 : tie.Need-is-none-requires-4
-is-none-requires-4 c κs = search needs
-
 returns : tie.Need-returns
 returns c = rw (c .is-none .ensures, c .before .enum-told .given .1)
 
@@ -64,20 +22,20 @@ pub is-shaped-spec : {M : Type 1} → statement M
 is-shaped-spec =
     tie.close
     (tie.spec
-    enum-told
-    is-none-requires
-    enum-told-2
-    is-none-requires-2
-    enum-told-3
-    is-scripted-requires
-    enum-told-4
-    is-process-requires
-    implied-requires
-    is-none-requires-3
-    is-process-requires-2
-    implied-requires-2
-    enum-told-5
-    is-none-requires-4
+    (λ c. search needs)
+    (λ c κs. search needs)
+    (λ c. search needs)
+    (λ c κs. search needs)
+    (λ c. search needs)
+    (λ c κs. search needs)
+    (λ c. search needs)
+    (λ c κs. search needs)
+    (λ c κs. search needs)
+    (λ c κs. search needs)
+    (λ c κs. search needs)
+    (λ c κs. search needs)
+    (λ c. search needs)
+    (λ c κs. search needs)
     returns
     returns-2
     returns-3

@@ -4,12 +4,6 @@ use borrow.Author.Needs.{needs}
 use Rattle.wellformed.proofs.reach_set.Statement.{statement}
 use Rattle.wellformed.proofs.reach_set.Tie as tie
 
-link-rows-requires : tie.Need-link-rows-requires
-link-rows-requires c κs = search needs
-
-reach-of-requires : tie.Need-reach-of-requires
-reach-of-requires c κs = search needs
-
 returns : tie.Need-returns
 returns c = search reach-found
 
@@ -17,4 +11,4 @@ returns-2 : tie.Need-returns-2
 returns-2 c = search reach-none
 
 pub reach-set-spec : {M : Type 1} → statement M
-reach-set-spec = tie.close (tie.spec link-rows-requires reach-of-requires returns returns-2)
+reach-set-spec = tie.close (tie.spec (λ c κs. search needs) (λ c κs. search needs) returns returns-2)

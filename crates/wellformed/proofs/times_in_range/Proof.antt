@@ -3,11 +3,8 @@ use borrow.Author.Needs.{needs}
 use Rattle.wellformed.proofs.times_in_range.Statement.{statement}
 use Rattle.wellformed.proofs.times_in_range.Tie as tie
 
-deadline-in-range-requires : tie.Need-deadline-in-range-requires
-deadline-in-range-requires c κs = search needs
-
 returns : tie.Need-returns
 returns c = cc
 
 pub times-in-range-spec : {M : Type 1} → statement M
-times-in-range-spec = tie.close (tie.spec deadline-in-range-requires returns)
+times-in-range-spec = tie.close (tie.spec (λ c κs. search needs) returns)

@@ -4,10 +4,6 @@ use Rattle.word.specs.Decimals.{readOf}
 use borrow.Author.Needs.{needs}
 use Rattle.word.proofs.advance.Statement.{statement}
 use Rattle.word.proofs.advance.Tie as tie
-use Rattle.word.proofs.advance.Reads as reads
-use Rattle.word.proofs.advance.Lts as lts
-use Rattle.text.proofs.is_digit.Reads as is-digit-reads
-use Rattle.word.proofs.digit.Reads as digit-reads
 
 digit-requires : tie.Need-digit-requires
 digit-requires c κs = (sym (c .before .is-digit .ensures) ∙ c .if1 .taken, c .before .before .pre)

@@ -8,8 +8,6 @@ use Rattle.word.proofs.Decimals.{digit-bounds, ten-digits, digit-more}
 use borrow.Author.Needs.{needs}
 use Rattle.word.proofs.digit.Statement.{statement}
 use Rattle.word.proofs.digit.Tie as tie
-use Rattle.word.proofs.digit.Reads as reads
-use Rattle.word.proofs.digit.Lts as lts
 
 mul-value : tie.Need-mul-value
 mul-value c = omega (arith, ten-digits (c .before .args .k) (c .before .pre .1), digit-bounds (c .before .args .b) (c .before .pre .0) .1)

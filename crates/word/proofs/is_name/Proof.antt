@@ -3,9 +3,6 @@ use Rattle.word.specs.Words.{isName}
 use borrow.Author.Needs.{needs}
 use Rattle.word.proofs.is_name.Statement.{statement}
 use Rattle.word.proofs.is_name.Tie as tie
-use Rattle.word.proofs.is_name.Reads as reads
-use Rattle.word.proofs.is_name.Lts as lts
-use Rattle.word.proofs.name_bytes.Reads as name-bytes-reads
 
 returns : tie.Need-returns
 unfolding isName

@@ -7,9 +7,6 @@ use Rattle.word.proofs.Words.{bytes-end, bytes-next}
 use borrow.Author.Needs.{needs}
 use Rattle.word.proofs.name_bytes.Statement.{statement}
 use Rattle.word.proofs.name_bytes.Tie as tie
-use Rattle.word.proofs.name_bytes.Reads as reads
-use Rattle.word.proofs.name_bytes.Lts as lts
-use Rattle.text.proofs.is_name_byte.Reads as is-name-byte-reads
 
 abbrev Inv-loop : tie.InvT-loop
 Inv-loop s i₀ i = (i ≤ length s) × (nameBytes s ≡ nameBytes (drop i s))

@@ -8,9 +8,6 @@ use Rattle.text.proofs.Strings.{index-end, index-next, at-now}
 use borrow.Author.Needs.{needs}
 use Rattle.word.proofs.property.Statement.{statement}
 use Rattle.word.proofs.property.Tie as tie
-use Rattle.word.proofs.property.Reads as reads
-use Rattle.word.proofs.property.Lts as lts
-use Rattle.text.proofs.same_bytes.Reads as same-bytes-reads
 
 abbrev Inv-loop : tie.InvT-loop
 Inv-loop name names k₀ k = (k ≤ 14) × (indexFrom name 0 propertyNames ≡ indexFrom name k (drop k propertyNames))

@@ -8,9 +8,6 @@ use Rattle.word.proofs.Decimals.{decimal-end, decimal-next}
 use borrow.Author.Needs.{needs}
 use Rattle.word.proofs.read_decimal.Statement.{statement}
 use Rattle.word.proofs.read_decimal.Tie as tie
-use Rattle.word.proofs.read_decimal.Reads as reads
-use Rattle.word.proofs.read_decimal.Lts as lts
-use Rattle.word.proofs.advance.Reads as advance-reads
 
 abbrev Inv-loop : tie.InvT-loop
 Inv-loop word k₀ i₀ k i = (i ≤ length word) × Sane (On k) × (decimalFrom blank word ≡ decimalFrom k (drop i word))

@@ -4,9 +4,6 @@ use Rattle.word.specs.Words.{flagOf}
 use borrow.Author.Needs.{needs}
 use Rattle.word.proofs.read_flag.Statement.{statement}
 use Rattle.word.proofs.read_flag.Tie as tie
-use Rattle.word.proofs.read_flag.Reads as reads
-use Rattle.word.proofs.read_flag.Lts as lts
-use Rattle.text.proofs.same_bytes.Reads as same-bytes-reads
 
 returns : tie.Need-returns
 unfolding flagOf
@@ -18,15 +15,7 @@ returns-2 c = rw (sym (c .before .before .before .before .same-bytes .ensures) �
 
 returns-3 : tie.Need-returns-3
 unfolding flagOf
-returns-3 c = rw (sym (c .before .before .before .before .before .before .before .same-bytes .ensures) ∙ c .before .before .before .before .before .before .if1 .left, sym (c .before .before .before .before .same-bytes2 .ensures) ∙ c .before .before .before .if2 .left, sym (c .before .same-bytes3 .ensures) ∙ c .if3 .taken)
-
-returns-4 : tie.Need-returns-4
-unfolding flagOf
-returns-4 c = rw (sym (c .before .before .before .before .before .before .before .before .before .before .same-bytes .ensures) ∙ c .before .before .before .before .before .before .before .before .before .if1 .left, sym (c .before .before .before .before .before .before .before .same-bytes2 .ensures) ∙ c .before .before .before .before .before .before .if2 .left, sym (c .before .before .before .before .same-bytes3 .ensures) ∙ c .before .before .before .if3 .left, sym (c .before .same-bytes4 .ensures) ∙ c .if4 .taken)
-
-returns-5 : tie.Need-returns-5
-unfolding flagOf
-returns-5 c = rw (sym (c .before .before .before .before .before .before .before .before .before .before .same-bytes .ensures) ∙ c .before .before .before .before .before .before .before .before .before .if1 .left, sym (c .before .before .before .before .before .before .before .same-bytes2 .ensures) ∙ c .before .before .before .before .before .before .if2 .left, sym (c .before .before .before .before .same-bytes3 .ensures) ∙ c .before .before .before .if3 .left, sym (c .before .same-bytes4 .ensures) ∙ c .if4 .left)
+returns-3 c = c .read-no .ensures ∙ rw (sym (c .before .before .before .before .before .same-bytes .ensures) ∙ c .before .before .before .before .if1 .left, sym (c .before .before .same-bytes2 .ensures) ∙ c .before .if2 .left)
 
 pub read-flag-spec : {M : Type 1} → statement M
 read-flag-spec =
@@ -38,10 +27,5 @@ read-flag-spec =
     (λ c. search needs)
     (λ c κs. search needs)
     returns-2
-    (λ c. search needs)
     (λ c κs. search needs)
-    returns-3
-    (λ c. search needs)
-    (λ c κs. search needs)
-    returns-4
-    returns-5)
+    returns-3)

@@ -4,9 +4,6 @@ use Rattle.word.specs.Words.{kindOf}
 use borrow.Author.Needs.{needs}
 use Rattle.word.proofs.read_kind.Statement.{statement}
 use Rattle.word.proofs.read_kind.Tie as tie
-use Rattle.word.proofs.read_kind.Reads as reads
-use Rattle.word.proofs.read_kind.Lts as lts
-use Rattle.text.proofs.same_bytes.Reads as same-bytes-reads
 
 returns : tie.Need-returns
 unfolding kindOf

@@ -4,9 +4,6 @@ use Rattle.word.specs.Decimals.{countEnd, countOf}
 use borrow.Author.Needs.{needs}
 use Rattle.word.proofs.read_limit.Statement.{statement}
 use Rattle.word.proofs.read_limit.Tie as tie
-use Rattle.word.proofs.read_limit.Reads as reads
-use Rattle.word.proofs.read_limit.Lts as lts
-use Rattle.word.proofs.read_decimal.Reads as read-decimal-reads
 
 returns : tie.Need-returns
 unfolding countOf

@@ -1,16 +1,15 @@
 -- `read_no` meets its contract, word by word.
 use mathlib.Core.Path.{sym, _∙_}
 use Rattle.word.specs.Words.{noOf}
+use Rattle.text.specs.Strings.{bytes}
+use Rattle.word.proofs.Words.{no-word}
 use borrow.Author.Needs.{needs}
 use Rattle.word.proofs.read_no.Statement.{statement}
 use Rattle.word.proofs.read_no.Tie as tie
-use Rattle.word.proofs.read_no.Reads as reads
-use Rattle.word.proofs.read_no.Lts as lts
-use Rattle.text.proofs.same_bytes.Reads as same-bytes-reads
 
 returns : tie.Need-returns
-unfolding noOf
-returns c = rw (sym (c .before .same-bytes .ensures) ∙ c .if1 .taken)
+unfolding bytes
+returns c = no-word _ (c .before .same-bytes .ensures) (c .if1 .taken)
 
 returns-2 : tie.Need-returns-2
 unfolding noOf

@@ -4,14 +4,6 @@ use Rattle.word.specs.Properties.{settingOf}
 use borrow.Author.Needs.{needs}
 use Rattle.word.proofs.read_setting.Statement.{statement}
 use Rattle.word.proofs.read_setting.Tie as tie
-use Rattle.word.proofs.read_setting.Reads as reads
-use Rattle.word.proofs.read_setting.Lts as lts
-use Rattle.word.proofs.read_flag.Reads as read-flag-reads
-use Rattle.word.proofs.read_kind.Reads as read-kind-reads
-use Rattle.word.proofs.read_limit.Reads as read-limit-reads
-use Rattle.word.proofs.read_no.Reads as read-no-reads
-use Rattle.word.proofs.read_signal.Reads as read-signal-reads
-use Rattle.word.proofs.read_time.Reads as read-time-reads
 
 returns : tie.Need-returns
 unfolding settingOf
@@ -35,7 +27,11 @@ returns-5 c = c .read-signal .ensures ∙ rw (c .before .before .before .before 
 
 returns-6 : tie.Need-returns-6
 unfolding settingOf
-returns-6 c = c .read-time .ensures ∙ rw (c .before .before .before .before .before .if1 .left, c .before .before .before .before .if2 .left, c .before .before .before .if3 .left, c .before .before .if4 .left, c .before .if5 .left)
+returns-6 c = c .read-time .ensures ∙ rw (c .before .before .before .before .before .before .if1 .left, c .before .before .before .before .before .if2 .left, c .before .before .before .before .if3 .left, c .before .before .before .if4 .left, c .before .before .if5 .left, c .before .if6 .taken)
+
+returns-7 : tie.Need-returns-7
+unfolding settingOf
+returns-7 c = rw (c .before .before .before .before .before .if1 .left, c .before .before .before .before .if2 .left, c .before .before .before .if3 .left, c .before .before .if4 .left, c .before .if5 .left, c .if6 .left)
 
 pub read-setting-spec : {M : Type 1} → statement M
 read-setting-spec =
@@ -52,4 +48,5 @@ read-setting-spec =
     (λ c κs. search needs)
     returns-5
     (λ c κs. search needs)
-    returns-6)
+    returns-6
+    returns-7)

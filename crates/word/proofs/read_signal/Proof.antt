@@ -9,9 +9,6 @@ use Rattle.text.proofs.Strings.{index-end, index-next, at-now}
 use borrow.Author.Needs.{needs}
 use Rattle.word.proofs.read_signal.Statement.{statement}
 use Rattle.word.proofs.read_signal.Tie as tie
-use Rattle.word.proofs.read_signal.Reads as reads
-use Rattle.word.proofs.read_signal.Lts as lts
-use Rattle.text.proofs.same_bytes.Reads as same-bytes-reads
 
 abbrev Inv-loop : tie.InvT-loop
 Inv-loop word names k₀ k = (k ≤ 8) × (indexFrom word 0 signalNames ≡ indexFrom word k (drop k signalNames))

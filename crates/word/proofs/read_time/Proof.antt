@@ -5,10 +5,6 @@ use Rattle.word.proofs.Decimals.{ten-digits, units-fit}
 use borrow.Author.Needs.{needs}
 use Rattle.word.proofs.read_time.Statement.{statement}
 use Rattle.word.proofs.read_time.Tie as tie
-use Rattle.word.proofs.read_time.Reads as reads
-use Rattle.word.proofs.read_time.Lts as lts
-use Rattle.word.proofs.read_decimal.Reads as read-decimal-reads
-use Rattle.word.proofs.scale.Reads as scale-reads
 
 returns : tie.Need-returns
 unfolding timeOf

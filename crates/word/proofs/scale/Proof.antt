@@ -4,8 +4,6 @@ use Prim.Native.Nat.{ℕ, _^_, _-_}
 use native.Mathlib.Omega.{arith}
 use Rattle.word.proofs.scale.Statement.{statement}
 use Rattle.word.proofs.scale.Tie as tie
-use Rattle.word.proofs.scale.Reads as reads
-use Rattle.word.proofs.scale.Lts as lts
 
 returns : tie.Need-returns
 returns c = rw (c .match .keys1)
