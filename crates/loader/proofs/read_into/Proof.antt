@@ -1,4 +1,4 @@
--- `read_into` meets its contract.
+-- `read_into` meets its contract: what is left of the texts, with the descriptions read so far.
 use Prim.Native.Nat.{_-_, _≤_}
 use native.Mathlib.Nat.{sub-zero}
 use native.Mathlib.Omega.{arith}

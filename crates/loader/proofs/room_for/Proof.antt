@@ -1,4 +1,4 @@
--- `room_for` meets its contract.
+-- `room_for` meets its contract: the room so far, and that of the services left.
 use Prim.Native.Nat.{_+_, _-_, _*_, _<_, _≤_}
 use native.Mathlib.Nat.{sub-zero}
 use native.Mathlib.Omega.{arith}
