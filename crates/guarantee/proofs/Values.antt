@@ -37,6 +37,11 @@ use Rattle.description.specs.declared.Effect.the-variants.{Dependency, Nothing,
 use Rattle.description.specs.declared.Line.{Line}
 use Rattle.description.specs.declared.Line.the-variants.{Bad as BadLine, Good as GoodLine}
 
+-- what holds of both sides of a choice, each where its side is taken, holds of the choice
+by-test : {A : Type 0} (P : A → Type 0) (b : Bool) (x y : A) → (b ≡ true → P x) → (b ≡ false → P y) → P (pick b x y)
+by-test P true x y f g = f refl
+by-test P false x y f g = g refl
+
 -- the value v of property p is in its range
 abbrev inRule : ℕ → ℕ → Bool
 inRule p v = pick (eqb p 7) (leb v maxCount) (pick (takesTime p) (leb v longestTime) true)
@@ -100,16 +105,12 @@ counted BadSetting h = tt
 setting-in : (p : ℕ) (w : List ℕ) → SettingIn p (settingOf p w)
 unfolding settingOf
 setting-in p w =
-    by-test (eqb p 0) (kindOf w) _ (λ e. at-number p 0 (kindOf w) e (free 0 (kindOf w) (λ v. refl))) λ _.
-    by-test (eqb p 3) (flagOf w) _ (λ e. at-number p 3 (flagOf w) e (free 3 (flagOf w) (λ v. refl))) λ _.
-    by-test (eqb p 4) (noOf w) _ (λ e. at-number p 4 (noOf w) e (free 4 (noOf w) (λ v. refl))) λ _.
-    by-test (eqb p 7) (countOf w) _ (λ e. at-number p 7 (countOf w) e (counted (countOf w) (count-at-most w))) λ n.
-    by-test (eqb p 13) (signalOf w) _ (λ e. at-number p 13 (signalOf w) e (free 13 (signalOf w) (λ v. refl))) λ _.
-    by-test (takesTime p) (timeOf w) BadSetting (λ _. timed p (timeOf w) n (time-at-most w)) (λ _. tt)
-  where
-    by-test : (b : Bool) (a c : SettingRead) → (b ≡ true → SettingIn p a) → (b ≡ false → SettingIn p c) → SettingIn p (pick b a c)
-    by-test true a c f g = f refl
-    by-test false a c f g = g refl
+    by-test (SettingIn p) (eqb p 0) (kindOf w) _ (λ e. at-number p 0 (kindOf w) e (free 0 (kindOf w) (λ v. refl))) λ _.
+    by-test (SettingIn p) (eqb p 3) (flagOf w) _ (λ e. at-number p 3 (flagOf w) e (free 3 (flagOf w) (λ v. refl))) λ _.
+    by-test (SettingIn p) (eqb p 4) (noOf w) _ (λ e. at-number p 4 (noOf w) e (free 4 (noOf w) (λ v. refl))) λ _.
+    by-test (SettingIn p) (eqb p 7) (countOf w) _ (λ e. at-number p 7 (countOf w) e (counted (countOf w) (count-at-most w))) λ n.
+    by-test (SettingIn p) (eqb p 13) (signalOf w) _ (λ e. at-number p 13 (signalOf w) e (free 13 (signalOf w) (λ v. refl))) λ _.
+    by-test (SettingIn p) (takesTime p) (timeOf w) BadSetting (λ _. timed p (timeOf w) n (time-at-most w)) (λ _. tt)
 
 -- ---- a line's effect
 
@@ -122,19 +123,15 @@ abbrev LineIn : Line → Type 0
 LineIn (GoodLine e) = EffectIn e
 LineIn (BadLine f) = Unit {0}
 
-by-either : (b : Bool) (k l : Line) → (b ≡ true → LineIn k) → (b ≡ false → LineIn l) → LineIn (pick b k l)
-by-either true k l f g = f refl
-by-either false k l f g = g refl
-
 dependency-in : (text : List ℕ) (d : Description) (p at seen : ℕ) (w : List ℕ) → LineIn (dependencyRead text d p at seen w)
 unfolding dependencyRead
-dependency-in text d p at seen w = by-either (known text d p w) _ _ (λ _. tt) λ _. by-either (ltb (d .count) maxDependencies) _ _ (λ _. tt) (λ _. tt)
+dependency-in text d p at seen w = by-test LineIn (known text d p w) _ _ (λ _. tt) λ _. by-test LineIn (ltb (d .count) maxDependencies) _ _ (λ _. tt) (λ _. tt)
 
 word-in : (text : List ℕ) (d : Description) (p at seen : ℕ) (w : List ℕ) → LineIn (wordRead text d p at seen w)
 unfolding wordRead
 word-in text d p at seen w =
-    by-either (takesName p) _ _
-    (λ _. by-either (isName w) _ _ (λ _. dependency-in text d p at seen w) (λ _. tt))
+    by-test LineIn (takesName p) _ _
+    (λ _. by-test LineIn (isName w) _ _ (λ _. dependency-in text d p at seen w) (λ _. tt))
     (λ _. go (settingOf p w) (setting-in p w))
   where
     go : (s : SettingRead) → SettingIn p s → LineIn (settingRead p seen s)
@@ -152,9 +149,9 @@ command-in p at e =
 tokens-in : (text : List ℕ) (d : Description) (p at seen : ℕ) (z : Sizes) (value : List ℕ) → LineIn (tokensRead text d p at seen z value)
 unfolding tokensRead
 tokens-in text d p at seen z value =
-    by-either (takesCommand p) _ _
-    (λ e. by-either (isCommand z) _ _ (λ _. command-in p at e) (λ _. tt))
-    (λ _. by-either (isWord z) _ _ (λ _. word-in text d p at seen (wordOf value)) (λ _. tt))
+    by-test LineIn (takesCommand p) _ _
+    (λ e. by-test LineIn (isCommand z) _ _ (λ _. command-in p at e) (λ _. tt))
+    (λ _. by-test LineIn (isWord z) _ _ (λ _. word-in text d p at seen (wordOf value)) (λ _. tt))
 
 line-in : (text : List ℕ) (d : Description) (from : ℕ) (l : List ℕ) → LineIn (lineRead text d from l)
 unfolding lineRead propertyRead
@@ -167,7 +164,7 @@ line-in text d from l = go (opening l)
     go : (o : Opening) → LineIn (openingRead text d from l o)
     go Silent = tt
     go (BadOpening f) = tt
-    go (Named s) = by-either (eqb (propertyOf (partOf l (s .from) (s .end))) unknownProperty) _ _ (λ _. tt)
+    go (Named s) = by-test LineIn (eqb (propertyOf (partOf l (s .from) (s .end))) unknownProperty) _ _ (λ _. tt)
         (λ _. scanned (propertyOf (partOf l (s .from) (s .end))) (from + s .value) (from + whiteEnd l (s .value)) (scanOf (drop (s .value) l)) (drop (s .value) l))
 
 -- ---- the settings of a description

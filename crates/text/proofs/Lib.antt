@@ -1,3 +1,4 @@
+-- The laws, each file after those that it cites.
 pub mod Strings
 pub mod Runs
 pub mod Lines

@@ -1,3 +1,4 @@
+-- The definitions, each file after those that it cites.
 pub mod Strings
 pub mod Bytes
 pub mod Lines

@@ -3,6 +3,7 @@ use Prim.Native.Nat.{_-_, _<_, _≤_}
 use lib.ListN.{length}
 use Rattle.base.proofs.Lists.{length-mapped}
 use Rattle.service.specs.Limits.{maxServices}
+use native.Mathlib.Nat.{sub-zero}
 use native.Mathlib.Omega.{arith}
 use mathlib.Core.Path.{_≡_, sym, _∙_}
 use Rattle.lent.specs.Parts.{nameAt, textAt}
@@ -23,7 +24,7 @@ abbrev μ-loop : tie.MeasureT-loop
 
 -- what stands for a description past the end of the array
 loop-holds : tie.Need-loop-holds Inv-loop μ-loop
-loop-holds c = (search needs, let e : c .before .before .args .n - 0 ≡ c .before .before .args .n = omega arith in rw e)
+loop-holds c = (search needs, rw (sub-zero (c .before .before .args .n)))
 
 returns : tie.Need-returns Inv-loop μ-loop
 returns c =

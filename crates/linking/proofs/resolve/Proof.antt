@@ -1,5 +1,6 @@
 -- `resolve` meets its contract: what is left of the dependencies, with the links made so far.
 use Prim.Native.Nat.{_-_, _≤_}
+use native.Mathlib.Nat.{sub-zero}
 use native.Mathlib.Omega.{arith}
 use mathlib.Core.Path.{_≡_, sym, _∙_}
 use Rattle.lent.specs.Parts.{nameAt}
@@ -17,7 +18,7 @@ abbrev μ-loop : tie.MeasureT-loop
 μ-loop lent ends n text d l₀ k₀ l k = d .count - k
 
 loop-holds : tie.Need-loop-holds Inv-loop μ-loop
-loop-holds c = (search needs, let e : c .before .before .before .args .d .count - 0 ≡ c .before .before .before .args .d .count = omega arith in rw e)
+loop-holds c = (search needs, rw (sub-zero (c .before .before .before .args .d .count)))
 
 loop-again : tie.Need-loop-again Inv-loop μ-loop
 loop-again c = (

@@ -1,5 +1,6 @@
--- `room_for` meets its contract.
+-- `room_for` meets its contract: the room so far, and that of the services left.
 use Prim.Native.Nat.{_+_, _-_, _*_, _<_, _≤_}
+use native.Mathlib.Nat.{sub-zero}
 use native.Mathlib.Omega.{arith}
 use mathlib.Core.Path.{_≡_, ap, _∙_}
 use lib.ListN.{length}
@@ -23,7 +24,7 @@ abbrev μ-loop : tie.MeasureT-loop
 μ-loop lent ends n ds o₀ j₀ o j = n - j
 
 loop-holds : tie.Need-loop-holds Inv-loop μ-loop
-loop-holds c = (search needs, omega arith, let e : c .before .before .args .n - 0 ≡ c .before .before .args .n = omega arith in rw e (omega arith))
+loop-holds c = (search needs, omega arith, rw (sub-zero (c .before .before .args .n)) (omega arith))
 
 room-of-requires : tie.Need-room-of-requires Inv-loop μ-loop
 room-of-requires c κs = text-short (c .before .before .before .before .before .before .pre .1) (c .before .before .loop-test .taken) (c .before .text-at .ensures)

@@ -1,5 +1,6 @@
 -- `write_all` meets its contract: what is left to place and to write, from the place that was reached.
 use Prim.Native.Nat.{ℕ, _-_, _*_, _<_, _≤_}
+use native.Mathlib.Nat.{sub-zero}
 use native.Mathlib.Omega.{arith}
 use mathlib.Core.Path.{_≡_, refl, sym, ap, _∙_}
 use mathlib.Core.List.{List, []}
@@ -26,9 +27,7 @@ abbrev μ-loop : tie.MeasureT-loop
 μ-loop lent ends n tokens₀ ds all₀ o₀ j₀ tokens all o j = n - j
 
 loop-holds : tie.Need-loop-holds Inv-loop μ-loop
-loop-holds c =
-    let e : c .before .before .before .args .n - 0 ≡ c .before .before .before .args .n = omega arith in
-    (search needs, omega arith, refl, rw e, rw e)
+loop-holds c = (search needs, omega arith, refl, rw (sub-zero (c .before .before .before .args .n)), rw (sub-zero (c .before .before .before .args .n)))
 
 place-commands-requires : tie.Need-place-commands-requires Inv-loop μ-loop
 place-commands-requires c κs = (
