@@ -48,7 +48,7 @@ PROMISED = [
     ('all-down', 'crates/rules/proofs/Rounds.antt', 'pub all-down : {n n′ : Now} {cs : List Call} → Rounds t (suc (t .count)) n cs n′'),
     ('always-formed', 'crates/rules/proofs/Formed.antt', 'pub always-formed : AlwaysFormed'),
     ('pair-loads', 'crates/loader/specs/Examples.antt', 'pub pair-loads : loadOf pair 30 ≡ pairLoaded'),
-    ('reader-waits', 'crates/rules/specs/Readings.antt', 'pub reader-waits : answers pair freshState'),
+    ('readings-hold', 'crates/rules/specs/Readings.antt', 'pub readings-hold : AllGiven readings'),
 ]
 
 # Where the statement stands that the auditor's page prints.
@@ -63,8 +63,9 @@ WORDS = ['Call', 'afterCalls', 'freshState', 'accepted', 'Mark', 'story', 'ActsO
 # The wrong programs that paper 01 names. Any other edit may go together with its row; these may not.
 SHUT_OUT = ['loader/refuses_all', 'loader/one_fixed_table', 'engine/always_quiet', 'events/ignores_start', 'events/ignores_stop_all',
             'events/ignores_clock', 'rule_records/shutdown_in_one_action', 'engine/run_invents_its_number', 'engine/run_writes_past_its_number',
-            'rules/settles_while_blocked', 'rules/ends_while_blocked', 'rules/deadline_before_launch', 'rules/settles_user_wanted',
-            'rules/releases_before_waking', 'rules/begins_on_closing']
+            'rules/launches_before_averager_ended', 'rules/ends_while_blocked', 'rules/deadline_before_launch', 'rules/settles_user_wanted',
+            'rules/releases_before_waking', 'rules/begins_on_closing', 'events/ignores_stop', 'events/ignores_end', 'settling/restarts_after_stop',
+            'record_tests/closing_is_serving', 'rule_records/start_timeout_from_before_launch']
 
 # What README.md names of each demand, so that a reader needs no other page to find it.
 ON_README = ['refusal-leaves-all', 'refused-load-leaves-all', 'load', 'outcome', 'Guarantee', 'guarantee']
@@ -128,16 +129,18 @@ class Check:
         return [f'{place}: {what}' for place, what in self.faults]
 
     def functions(self):
-        """The table of functions is the one that the sources give; what else stands on its page is read by the checks below."""
-        try:
-            table = functions.table(self.tree)
-            before, held, after = functions.parted(self.whole[DESIGN])
-        except (ValueError, SystemExit) as error:
-            self.fault(DESIGN, f'no table of functions can be made or found: {error}')
-            return
-        if held != table:
-            self.fault(DESIGN, 'the table of functions is not what `scripts/functions` prints')
-        self.whole[DESIGN] = before + after
+        """The tables of functions and of wrong programs are those that the tree gives; what else stands on DESIGN is read by the checks below."""
+        for page, made in functions.TABLES.items():
+            try:
+                table = made(self.tree)
+                before, held, after = functions.parted(self.whole[page])
+            except (ValueError, SystemExit) as error:
+                self.fault(page, f'no table can be made or found: {error}')
+                continue
+            if held != table:
+                self.fault(page, 'its table is not what `scripts/functions` prints')
+            if page == DESIGN:
+                self.whole[page] = before + after
 
     def paths(self):
         """Every path on every page is there, quoted or not: from the root, the page's folder, or a crate's. What a build makes is not looked for."""

@@ -67,7 +67,7 @@ DAMAGES = [
     ('a part of it is gone', 'pub safe', {f'{RULES}/specs/Demand.antt': without_line('pub safe : Safe t nobody')}),
     ('a contract cites another definition', 'stop_all', {'crates/events/src/lib.rt': swap('outcome t x stopAll', 'outcome t x nextCall')}),
     ('a statement is renamed', 'always-safe', {f'{RULES}/proofs/Safety.antt': rename('always-safe', 'mostly-safe')}),
-    ('a case is renamed', 'reader-waits', {f'{RULES}/specs/Readings.antt': rename('reader-waits', 'reader-stays')}),
+    ('a statement of cases is renamed', 'readings-hold', {f'{RULES}/specs/Readings.antt': rename('readings-hold', 'readings-pass')}),
     ('the table of cases is renamed', 'cases', {f'{GUARANTEE}/specs/Worked.antt': rename('cases', 'samples')}),
     ('a definition is renamed', 'fits', {f'{RULES}/specs/Rules.antt': rename('fits', 'suits')}),
     ('a word of the demand is renamed', 'sent', {f'{RULES}/specs/Demand.antt': rename('sent', 'mailed')}),
@@ -97,7 +97,8 @@ DAMAGES = [
     ('a file of proofs is renamed', 'Weights', {f'{RULES}/proofs/Weights.antt': gone}),
     ('a decision names a wrong file', 'barred', {'docs/DECISIONS.md': swap('| `barred` | `crates/rules/specs/Dependencies.antt` |', '| `barred` | `crates/rules/specs/Rules.antt` |')}),
     ('an import is not in the table of crates', 'linking imports', {'crates.txt': swap('linking: base', 'linking: rules base')}),
-    ('the table of functions is stale', 'table of functions', {DESIGN: without_line('| `query` | `query` |')}),
+    ('the table of functions is stale', 'docs/DESIGN.md: its table', {DESIGN: without_line('| `query` | `query` |')}),
+    ('an edit tells another program than its row', 'docs/AUDIT.md: its table', {'crates/engine/must-fail/always_quiet.edit': swap('# a next action', '# an action')}),
 ]
 
 

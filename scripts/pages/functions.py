@@ -1,6 +1,7 @@
-"""Prints the table of public functions: the definitions that each contract cites, and the must-fail edits inside it.
+"""Prints the two tables that are made from the tree: that of the public functions, with the definitions that each contract cites and the must-fail
+edits inside it, and that of the wrong programs that the edits stand for.
 
-docs/DESIGN.md holds this table between two marks. `scripts/functions --write` puts it there anew, and `scripts/check_docs` compares the two.
+docs/DESIGN.md and docs/AUDIT.md hold them between two marks. `scripts/functions --write` puts them there anew, and `scripts/check_docs` compares.
 """
 import os
 import re
@@ -8,8 +9,8 @@ import sys
 
 from tree import ROOT, Tree
 
-PAGE = 'docs/DESIGN.md'
-BEGIN, END = '<!-- functions -->\n', '<!-- end of functions -->\n'
+DESIGN, AUDIT = 'docs/DESIGN.md', 'docs/AUDIT.md'
+BEGIN, END = '<!-- made by scripts/functions -->\n', '<!-- end of what it made -->\n'
 
 
 def cited(text, part):
@@ -54,6 +55,22 @@ def table(tree):
     return '\n'.join(head + rows + tail + others) + '\n'
 
 
+def wrong_programs(tree):
+    """Each must-fail edit with the wrong program that its first line tells."""
+    rows = ['| crate | wrong program | edit |', '|---|---|---|']
+    for crate in tree.crates:
+        for name, _, _ in tree.edits(crate):
+            path = f'crates/{crate}/must-fail/{name}.edit'
+            program = tree.text(path).split('\n')[0]
+            if not program.startswith('# '):
+                raise SystemExit(f'{path}: its first line does not tell the wrong program')
+            rows.append(f'| `{crate}` | {program[2:]} | `{path}` |')
+    return '\n'.join(rows) + '\n'
+
+
+TABLES = {DESIGN: table, AUDIT: wrong_programs}
+
+
 def parted(page):
     """The page before the table, the table that it holds, and the page after it."""
     begin, end = page.index(BEGIN) + len(BEGIN), page.index(END)
@@ -62,10 +79,11 @@ def parted(page):
 
 if __name__ == '__main__':
     here = Tree(ROOT)
-    if sys.argv[1:] == ['--write']:
-        before, _, after = parted(here.text(PAGE))
-        page = before + table(here) + after
-        with open(os.path.join(here.root, PAGE), 'w', encoding='utf-8') as file:
-            file.write(page)
-    else:
-        print(table(here), end='')
+    for path, made in TABLES.items():
+        if sys.argv[1:] == ['--write']:
+            before, _, after = parted(here.text(path))
+            page = before + made(here) + after
+            with open(os.path.join(here.root, path), 'w', encoding='utf-8') as file:
+                file.write(page)
+        else:
+            print(made(here))
