@@ -57,13 +57,18 @@ fn wide(b: u8) -> u64 {
     b as u64
 }
 
+// The checksum with one load: its answer, and what it gives of service s.
+fn loaded(sum: u64, lent: &[u8], ends: &[usize], tokens: &mut [u8; 65536], s: usize) -> u64 {
+    let y = load(lent, ends, tokens);
+    load_taken_up(sum, y, s)
+}
+
 // Loads of n services; of each the answer, and one byte of the tokens.
 fn loads_of(lent: &[u8], ends: &[usize], tokens: &mut [u8; 65536], n: usize, turns: usize) -> u64 {
     let mut sum: u64 = 0;
     let mut k: usize = 0;
     while k < turns {
-        let y = load(lent, ends, tokens);
-        sum = load_taken_up(sum, y, modulo(k, n));
+        sum = loaded(sum, lent, ends, tokens, modulo(k, n));
         sum = taken_up(sum, wide(tokens[k % 1024]));
         k += 1;
     }
