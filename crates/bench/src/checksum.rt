@@ -84,11 +84,11 @@ fn refused(k: Refusal) -> u64 {
     1024 * refusal_number(k)
 }
 
-// An event's answer, with the record that it left.
-pub(crate) fn event_number(a: EventAnswer, r: Record) -> u64 {
+// The checksum with an event's answer and the record that it left.
+pub(crate) fn event_taken_up(sum: u64, a: EventAnswer, r: Record) -> u64 {
     match a {
-        EventAnswer::Done => record_number(r),
-        EventAnswer::Refused(k) => refused(k) | record_number(r),
+        EventAnswer::Done => taken_up(sum, record_number(r)),
+        EventAnswer::Refused(k) => taken_up(sum, refused(k) | record_number(r)),
     }
 }
 
@@ -99,18 +99,23 @@ fn act_number(a: Action) -> u64 {
     1 + action_service(a) % 32 + 32 * (action_number(a) % 16)
 }
 
-pub(crate) fn answer_number(a: ActionAnswer) -> u64 {
+pub(crate) fn answer_taken_up(sum: u64, a: ActionAnswer) -> u64 {
     match a {
-        ActionAnswer::Act(act) => act_number(act),
-        ActionAnswer::Refused(k) => refused(k),
+        ActionAnswer::Act(act) => taken_up(sum, act_number(act)),
+        ActionAnswer::Refused(k) => taken_up(sum, refused(k)),
     }
 }
 
-pub(crate) fn run_number(a: RunAnswer) -> u64 {
+fn run_number(a: RunAnswer) -> u64 {
     match a {
         RunAnswer::Ran(k) => k as u64,
         RunAnswer::Refused(k) => refused(k),
     }
+}
+
+// The checksum with a run's answer and the numbers at one of its places.
+pub(crate) fn run_taken_up(sum: u64, a: RunAnswer, service: u64, action: u64) -> u64 {
+    taken_up(taken_up(taken_up(sum, run_number(a)), service), action)
 }
 
 fn earliest_number(d: Deadline) -> u64 {
@@ -120,10 +125,10 @@ fn earliest_number(d: Deadline) -> u64 {
     }
 }
 
-pub(crate) fn query_number(a: QueryAnswer) -> u64 {
+pub(crate) fn query_taken_up(sum: u64, a: QueryAnswer) -> u64 {
     match a {
-        QueryAnswer::Earliest(d) => earliest_number(d),
-        QueryAnswer::Refused(k) => refused(k),
+        QueryAnswer::Earliest(d) => taken_up(sum, earliest_number(d)),
+        QueryAnswer::Refused(k) => taken_up(sum, refused(k)),
     }
 }
 

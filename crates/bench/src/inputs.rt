@@ -96,7 +96,12 @@ fn phase_of(up: bool) -> Phase {
     if up { Phase::Up } else { Phase::Waiting }
 }
 
-fn record_of(i: usize, up: bool) -> Record {
+// The first service's not-before; the others have 0.
+fn time_of(i: usize, first: u64) -> u64 {
+    if i == 0 { first } else { 0 }
+}
+
+pub(crate) fn record_of(i: usize, up: bool, not_before: u64) -> Record {
     Record {
         phase: phase_of(up),
         wanted: true,
@@ -105,21 +110,21 @@ fn record_of(i: usize, up: bool) -> Record {
         cause: Cause::None,
         deadline: Deadline::None,
         killed: false,
-        not_before: 0,
+        not_before,
         last_launch: 0,
         window_start: 0,
         restarts: 0,
     }
 }
 
-// Up below the given place, waiting from there on.
-pub(crate) fn state_up_to(first_waiting: usize, n: usize) -> State {
+// Up below the given place, waiting from there on; service 0 may have a not-before.
+pub(crate) fn state_up_to(first_waiting: usize, n: usize, not_before: u64) -> State {
     let mut x = State::fresh();
     x.clock = UP_CLOCK;
     let mut i: usize = 0;
     while i < 32 {
         if i < n {
-            let r = record_of(i, place_of(i, n) < first_waiting);
+            let r = record_of(i, place_of(i, n) < first_waiting, time_of(i, not_before));
             x.records[i] = r;
         }
         i += 1;

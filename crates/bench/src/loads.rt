@@ -2,7 +2,9 @@
 use crate::checksum::taken_up;
 use crate::inputs::modulo;
 use lent::Answer;
+use loader::Loaded;
 use loader::load;
+use service::Settings;
 use service::Table;
 
 // The lent positions of 32 services: for each its name's end and its text's.
@@ -17,22 +19,29 @@ fn positions() -> [usize; 64] {
     ends
 }
 
+fn settings_taken_up(sum: u64, v: Settings) -> u64 {
+    let mut next = taken_up(sum, v.start_timeout);
+    next = taken_up(next, v.hard);
+    next = taken_up(next, v.milestone);
+    taken_up(next, v.soft)
+}
+
 // The checksum with the size of the table and the settings of service s.
 fn table_taken_up(sum: u64, t: Table, s: usize) -> u64 {
     if s < 32 {
         let v = t.services[s];
-        let mut next = taken_up(sum, t.count as u64);
-        next = taken_up(next, v.start_timeout);
-        next = taken_up(next, v.hard);
-        next = taken_up(next, v.milestone);
-        return taken_up(next, v.soft);
+        return settings_taken_up(taken_up(sum, t.count as u64), v);
     }
     sum
 }
 
-fn load_taken_up(sum: u64, a: Answer, t: Table, s: usize) -> u64 {
+fn load_taken_up(sum: u64, y: Loaded, s: usize) -> u64 {
+    let a = y.answer;
     match a {
-        Answer::Accepted => table_taken_up(sum, t, s),
+        Answer::Accepted => {
+            let t = y.table;
+            table_taken_up(sum, t, s)
+        }
         Answer::Refused {
             number,
             service,
@@ -48,51 +57,41 @@ fn wide(b: u8) -> u64 {
     b as u64
 }
 
+// The checksum with one load: its answer, and what it gives of service s.
+fn loaded(sum: u64, lent: &[u8], ends: &[usize], tokens: &mut [u8; 65536], s: usize) -> u64 {
+    let y = load(lent, ends, tokens);
+    load_taken_up(sum, y, s)
+}
+
 // Loads of n services; of each the answer, and one byte of the tokens.
-fn loads_of(lent: &[u8], ends: &[usize], n: usize, turns: usize) -> u64 {
-    let mut tokens = [0u8; 65536];
+fn loads_of(lent: &[u8], ends: &[usize], tokens: &mut [u8; 65536], n: usize, turns: usize) -> u64 {
     let mut sum: u64 = 0;
     let mut k: usize = 0;
     while k < turns {
-        let y = load(lent, ends, &mut tokens);
-        let a = y.answer;
-        let t = y.table;
-        sum = load_taken_up(sum, a, t, modulo(k, n));
+        sum = loaded(sum, lent, ends, tokens, modulo(k, n));
         sum = taken_up(sum, wide(tokens[k % 1024]));
         k += 1;
     }
     sum
 }
 
+// The positions of n services: an n other than 2 and 8 counts as 32.
+fn position_count(n: usize) -> usize {
+    if n == 2 {
+        return 4;
+    }
+    if n == 8 { 16 } else { 64 }
+}
+
 // The same with what standard input has.
 pub(crate) fn loads(n: usize, turns: usize) -> u64 {
     let mut lent = [0u8; 32864];
     let got = io::read_full(0, &mut lent);
-    if n == 2 {
-        let ends = [3usize, 1027, 1030, 2054];
-        return loads_of(&lent[..got], &ends, n, turns);
-    }
-    if n == 8 {
-        let ends = [
-            3usize,
-            1027,
-            1030,
-            2054,
-            2057,
-            3081,
-            3084,
-            4108,
-            4111,
-            5135,
-            5138,
-            6162,
-            6165,
-            7189,
-            7192,
-            8216,
-        ];
-        return loads_of(&lent[..got], &ends, n, turns);
-    }
     let ends = positions();
-    loads_of(&lent[..got], &ends, n, turns)
+    let mut tokens = [0u8; 65536];
+    let count = position_count(n);
+    if count <= 64 {
+        return loads_of(&lent[..got], &ends[0..count], &mut tokens, n, turns);
+    }
+    0
 }

@@ -5,23 +5,21 @@ mod inputs;
 mod loads;
 mod loops;
 
-use check::same;
-use checksum::event_number;
-use events::start;
 use inputs::service_at;
 use inputs::state_up_to;
 use inputs::table_of;
 use libc::STDOUT_FILENO;
 use loads::loads;
-use loops::clocks;
-use loops::ends;
+use loops::Event;
+use loops::events;
 use loops::queries;
 use loops::requests;
 use loops::runs;
-use loops::starts;
-use loops::stops;
-use loops::stops_of_all;
 use service::State;
+
+// The loops' names, each in 12 places.
+const NAMES: [u8; 120] =
+    *b"next-quiet  next-launch start       stop        stop-all    end         clock       query       run         load        ";
 
 // The number with one decimal digit more.
 fn with_digit(number: usize, digit: u8) -> usize {
@@ -46,66 +44,71 @@ fn number_argument(i: usize) -> usize {
     number_of(&word[..length])
 }
 
-fn event_loop(name: &[u8], n: usize, turns: usize) -> u64 {
-    let t = table_of(n);
-    let x = state_up_to(n, n);
-    if same(name, b"start") {
-        return starts(t, x, n, turns);
-    }
-    if same(name, b"stop") {
-        return stops(t, x, n, turns);
-    }
-    if same(name, b"stop-all") {
-        return stops_of_all(t, x, n, turns);
-    }
-    if same(name, b"end") {
-        return ends(t, x, n, turns);
-    }
-    if same(name, b"clock") {
-        return clocks(t, x, n, turns);
-    }
-    0
+fn event_loop(which: Event, n: usize, turns: usize) -> u64 {
+    events(which, table_of(n), state_up_to(n, n, 0), n, turns)
+}
+
+fn request_loop(first_waiting: usize, n: usize, turns: usize) -> u64 {
+    requests(table_of(n), state_up_to(first_waiting, n, 0), n, turns)
 }
 
 fn query_loop(n: usize, turns: usize) -> u64 {
-    let t = table_of(n);
-    let mut x = state_up_to(n / 2, n);
-    let mut r = x.records[0];
-    r.not_before = 2000000;
-    x.records[0] = r;
-    queries(t, x, n, turns)
+    queries(table_of(n), state_up_to(n / 2, n, 2000000), n, turns)
 }
 
 fn run_loop(n: usize, turns: usize) -> u64 {
     let t = table_of(n);
-    let y = start(t, State::fresh(), service_at(31, n));
+    let y = engine::start(t, State::fresh(), service_at(31, n));
     let x = y.state;
-    runs(t, x, n, turns)
+    let mut services = [0u64; 128];
+    let mut actions = [0u64; 128];
+    runs(t, x, &mut services, &mut actions, n, turns)
 }
 
-fn action_loop(name: &[u8], n: usize, turns: usize) -> u64 {
-    if same(name, b"next-quiet") {
-        return requests(table_of(n), state_up_to(n, n), n, turns);
+// The word begins as the name at a place does, up to the name's spaces.
+fn is_at(word: &[u8; 32], names: &[u8; 120], place: usize) -> bool {
+    let mut same = true;
+    let mut i: usize = 0;
+    while i < 12 {
+        same = same & (word[i] == names[(place % 120 + i) % 120]);
+        i += 1;
     }
-    if same(name, b"next-launch") {
-        return requests(table_of(n), state_up_to(n / 2, n), n, turns);
+    same
+}
+
+// The number of the loop that the word names, or 10 for none.
+fn loop_number(word: &[u8; 32]) -> usize {
+    let names = NAMES;
+    let mut k: usize = 0;
+    while k < 10 {
+        if is_at(word, &names, 12 * k) {
+            return k;
+        }
+        k += 1;
     }
-    if same(name, b"query") {
-        return query_loop(n, turns);
+    k
+}
+
+fn turns_of(number: usize, n: usize, turns: usize) -> u64 {
+    match number {
+        0 => request_loop(n, n, turns),
+        1 => request_loop(n / 2, n, turns),
+        2 => event_loop(Event::Start, n, turns),
+        3 => event_loop(Event::Stop, n, turns),
+        4 => event_loop(Event::StopAll, n, turns),
+        5 => event_loop(Event::End, n, turns),
+        6 => event_loop(Event::Clock, n, turns),
+        7 => query_loop(n, turns),
+        8 => run_loop(n, turns),
+        9 => loads(n, turns),
+        _ => 0,
     }
-    if same(name, b"load") {
-        return loads(n, turns);
-    }
-    if same(name, b"run") {
-        return run_loop(n, turns);
-    }
-    event_loop(name, n, turns)
 }
 
 fn main() {
-    let mut word = [0u8; 32];
-    let length = os::arg(1, &mut word);
-    let sum = action_loop(&word[..length], number_argument(2), number_argument(3));
+    let mut word = [b' '; 32];
+    os::arg(1, &mut word);
+    let sum = turns_of(loop_number(&word), number_argument(2), number_argument(3));
     io::print_decimal(STDOUT_FILENO, sum);
     io::write_all(STDOUT_FILENO, b"\n");
 }

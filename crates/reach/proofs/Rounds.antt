@@ -24,7 +24,7 @@ pub record Rounding (n k own : ℕ) (old rows : List ℕ) (i : ℕ) : Type 0 whe
   pub own-row : own ≡ getD old k 0
 
 module _ {n k own : ℕ} {old : List ℕ} where
-  pub rounding-none : n ≤ 32 → length old ≡ 32 → own ≡ getD old k 0 → Rounding n k own old old 0
+  pub rounding-none : n ≤ mostRows → length old ≡ 32 → own ≡ getD old k 0 → Rounding n k own old old 0
   rounding-none l h e = record { filling = filling-none l h; rest = λ j q. refl; own-row = e }
 
   pub rounding-more : {rows : List ℕ} {i v : ℕ} → Rounding n k own old rows i → i < n → v ≡ through k (getD rows i 0) own
@@ -79,13 +79,13 @@ cyclic-as d e n h =
 
 -- what s reaches, where there is such a row; m is what the code found
 module _ (rows : List ℕ) (n s : ℕ) where
-  pub row-reached : (m : ℕ) → m ≡ reach (rowsAs rows) n s → n ≤ 32 → s < n → m ≡ pick (leb n mostRows && ltb s n) (reach (rowsAs rows) n s) 0
+  pub row-reached : (m : ℕ) → m ≡ reach (rowsAs rows) n s → n ≤ mostRows → s < n → m ≡ pick (leb n mostRows && ltb s n) (reach (rowsAs rows) n s) 0
   row-reached m e l k = e ∙ rw (le-leb n 32 l, lt-ltb s n k)
 
-  pub row-past : n ≤ 32 → n ≤ s → 0 ≡ pick (leb n mostRows && ltb s n) (reach (rowsAs rows) n s) 0
+  pub row-past : n ≤ mostRows → n ≤ s → 0 ≡ pick (leb n mostRows && ltb s n) (reach (rowsAs rows) n s) 0
   row-past l k = rw (le-leb n 32 l, le-ltb s n k)
 
-  pub row-none : 32 < n → 0 ≡ pick (leb n mostRows && ltb s n) (reach (rowsAs rows) n s) 0
+  pub row-none : mostRows < n → 0 ≡ pick (leb n mostRows && ltb s n) (reach (rowsAs rows) n s) 0
   row-none l = rw (lt-leb n 32 l)
 
 -- b is what the code found of the rows after all rounds

@@ -25,8 +25,8 @@ fn joined(k: usize, a: u64, b: u64) -> u64
 
 // One round, in place: what is reached through k as well. The row of k stays as it is.
 fn round(n: usize, rows: &mut [u64; MAX_ROWS], k: usize)
-    requires { ⌜ (n ≤ 32) × (k < 32) × (length (now rows) ≡ 32) ⌝ }
-    ensures { λ _. ⌜ Filled 0 (λ j. through k (getD (now (rows .entry)) j 0) (getD (now (rows .entry)) k 0)) 32 (now (rows .exit)) n ⌝ }
+    requires { ⌜ (n ≤ mostRows) × (k < mostRows) × (length (now rows) ≡ mostRows) ⌝ }
+    ensures { λ _. ⌜ Filled 0 (λ j. through k (getD (now (rows .entry)) j 0) (getD (now (rows .entry)) k 0)) mostRows (now (rows .exit)) n ⌝ }
 {
     let own = rows[k];
     let mut i: usize = 0;
@@ -38,8 +38,8 @@ fn round(n: usize, rows: &mut [u64; MAX_ROWS], k: usize)
 
 // What each number below n reaches, in n rounds.
 fn reached(n: usize, rows: &mut [u64; MAX_ROWS])
-    requires { ⌜ (n ≤ 32) × (length (now rows) ≡ 32) ⌝ }
-    ensures { λ _. ⌜ Filled 0 (reach (rowsAs (now (rows .entry))) n) 32 (now (rows .exit)) n ⌝ }
+    requires { ⌜ (n ≤ mostRows) × (length (now rows) ≡ mostRows) ⌝ }
+    ensures { λ _. ⌜ Filled 0 (reach (rowsAs (now (rows .entry))) n) mostRows (now (rows .exit)) n ⌝ }
 {
     let mut k: usize = 0;
     while k < n {
@@ -50,7 +50,7 @@ fn reached(n: usize, rows: &mut [u64; MAX_ROWS])
 
 // Some number below n is in its own row.
 fn has_own(n: usize, rows: &[u64; MAX_ROWS]) -> bool
-    requires { ⌜ n ≤ 32 ⌝ }
+    requires { ⌜ n ≤ mostRows ⌝ }
     ensures { λ b. ⌜ b ≡ some (λ i. hasBit (rowsAs (now (rows .entry)) i) i) n ⌝ }
 {
     let mut found = false;
@@ -63,7 +63,7 @@ fn has_own(n: usize, rows: &[u64; MAX_ROWS]) -> bool
 }
 
 fn is_cyclic(n: usize, rows: [u64; MAX_ROWS]) -> bool
-    requires { ⌜ n ≤ 32 ⌝ }
+    requires { ⌜ n ≤ mostRows ⌝ }
     ensures { λ b. ⌜ b ≡ cyclic (rowsAs rows) n ⌝ }
 {
     let mut all = rows;
@@ -91,7 +91,7 @@ pub struct Turn {
 
 // One turn over the numbers: each whose links all lead into the set joins it.
 fn peel(n: usize, rows: &[u64; MAX_ROWS], start: u64) -> Turn
-    requires { ⌜ (n ≤ 32) × Grounded (rowsAs (now rows)) start ⌝ }
+    requires { ⌜ (n ≤ mostRows) × Grounded (rowsAs (now rows)) start ⌝ }
     ensures { λ w. ⌜ Peeling (now (rows .entry)) n (w .done) (w .all) n ⌝ }
 {
     let mut done = start;
@@ -112,7 +112,7 @@ fn peel(n: usize, rows: &[u64; MAX_ROWS], start: u64) -> Turn
 
 // Turns until all have joined, or one adds none.
 fn peels(n: usize, rows: &[u64; MAX_ROWS]) -> bool
-    requires { ⌜ n ≤ 32 ⌝ }
+    requires { ⌜ n ≤ mostRows ⌝ }
     ensures { λ b. ⌜ AllSafe (now (rows .entry)) n b ⌝ }
 {
     let mut done: u64 = 0;
@@ -146,7 +146,7 @@ pub fn has_cycle(n: usize, rows: [u64; MAX_ROWS]) -> bool
 
 // The set with all that each number of it is linked to, in one pass over the numbers below n.
 fn widened(n: usize, rows: &[u64; MAX_ROWS], m: u64) -> u64
-    requires { ⌜ n ≤ 32 ⌝ }
+    requires { ⌜ n ≤ mostRows ⌝ }
     ensures { λ w. ⌜ w ≡ wide (now (rows .entry)) m n ⌝ }
 {
     let mut all = m;
@@ -160,7 +160,7 @@ fn widened(n: usize, rows: &[u64; MAX_ROWS], m: u64) -> u64
 
 // What s reaches: its row, widened until a pass adds nothing. As numbers the sets only grow.
 fn spread(n: usize, rows: &[u64; MAX_ROWS], s: usize) -> u64
-    requires { ⌜ (n ≤ 32) × (s < n) ⌝ }
+    requires { ⌜ (n ≤ mostRows) × (s < n) ⌝ }
     ensures { λ m. ⌜ m ≡ reach (rowsAs (now (rows .entry))) n s ⌝ }
 {
     let mut m = rows[s];

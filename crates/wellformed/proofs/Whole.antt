@@ -44,7 +44,7 @@ order false true c false = refl
 order false false c d = refl
 
 -- e is what the code found of each service, q of the rows
-pub formed-found : (t : Table) (x : State) (rows : List ℕ) (e q : Bool) → t .count ≤ maxServices → Filled 0 (allLinks t) 32 rows (t .count)
+pub formed-found : (t : Table) (x : State) (rows : List ℕ) (e q : Bool) → t .count ≤ maxServices → Filled 0 (allLinks t) maxServices rows (t .count)
     → e ≡ every (λ s. placeFormed (t .count) (x .clock) (settingsAt t s) (recordAt x s)) (t .count)
     → q ≡ (leb (t .count) mostRows && cyclic (rowsAs rows) (t .count))
     → (leb (x .clock) lastClock && e && not q) ≡ formed t x
@@ -53,7 +53,7 @@ formed-found t x rows e q l f h g =
     rw (
       h,
       g,
-      le-leb (t .count) 32 l,
+      le-leb (t .count) maxServices l,
       cyclic-as (rowsAs rows) (allLinks t) (t .count) (f .at),
       every-both
           (λ s. linksInside (t .count) (settingsAt t s) && settingsInRange (settingsAt t s))
@@ -68,13 +68,13 @@ formed-found t x rows e q l f h g =
 
 pub not-formed : (t : Table) (x : State) → maxServices < t .count → false ≡ formed t x
 unfolding formed tableFormed
-not-formed t x l = rw (lt-leb (t .count) 32 l)
+not-formed t x l = rw (lt-leb (t .count) maxServices l)
 
 -- m is what the code found of the rows
-pub reach-found : (t : Table) (rows : List ℕ) (s m : ℕ) → t .count ≤ maxServices → Filled 0 (allLinks t) 32 rows (t .count)
+pub reach-found : (t : Table) (rows : List ℕ) (s m : ℕ) → t .count ≤ maxServices → Filled 0 (allLinks t) maxServices rows (t .count)
     → m ≡ pick (leb (t .count) mostRows && ltb s (t .count)) (reach (rowsAs rows) (t .count) s) 0
     → m ≡ pick (leb (t .count) maxServices && ltb s (t .count)) (reach (allLinks t) (t .count) s) 0
-reach-found t rows s m l f e = e ∙ rw (le-leb (t .count) 32 l) (go (ltb s (t .count)) refl)
+reach-found t rows s m l f e = e ∙ rw (le-leb (t .count) maxServices l) (go (ltb s (t .count)) refl)
   where
     go : (b : Bool) → ltb s (t .count) ≡ b → pick b (reach (rowsAs rows) (t .count) s) 0 ≡ pick b (reach (allLinks t) (t .count) s) 0
     go true k = reach-as (rowsAs rows) (allLinks t) (t .count) (f .at) (t .count) s (omega arith) (ltb-true s (t .count) k)
@@ -82,4 +82,4 @@ reach-found t rows s m l f e = e ∙ rw (le-leb (t .count) 32 l) (go (ltb s (t .
 
 pub reach-none : (t : Table) (s : ℕ) → maxServices < t .count
     → 0 ≡ pick (leb (t .count) maxServices && ltb s (t .count)) (reach (allLinks t) (t .count) s) 0
-reach-none t s l = rw (lt-leb (t .count) 32 l)
+reach-none t s l = rw (lt-leb (t .count) maxServices l)

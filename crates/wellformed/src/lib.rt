@@ -104,7 +104,7 @@ fn place_formed(n: usize, now: u64, v: Settings, r: Record) -> bool
 // Each service's dependencies of any kind.
 fn link_rows(t: Table) -> [u64; MAX_SERVICES]
     requires { ⌜ t .count ≤ maxServices ⌝ }
-    ensures { λ r. ⌜ Filled 0 (allLinks t) 32 r (t .count) ⌝ }
+    ensures { λ r. ⌜ Filled 0 (allLinks t) maxServices r (t .count) ⌝ }
 {
     let mut rows = [0u64; MAX_SERVICES];
     let mut i: usize = 0;

@@ -4,6 +4,7 @@ use Prim.Native.Nat.{_-_}
 use mathlib.Core.Path.{refl}
 use Rattle.base.proofs.Filled.{Filling, filling-none, filling-more, filling-all}
 use Rattle.base.proofs.Loops.{Every, folded-none, every-more, every-all}
+use Rattle.service.specs.Limits.{maxServices}
 use Rattle.service.specs.Settings.{settingsAt}
 use Rattle.service.specs.Records.{recordAt}
 use Rattle.rules.specs.Dependencies.{allLinks}
@@ -13,7 +14,7 @@ use Rattle.wellformed.proofs.is_formed.Statement.{statement}
 use Rattle.wellformed.proofs.is_formed.Tie as tie
 
 abbrev Inv-loop : tie.InvT-loop
-Inv-loop t x rows₀ i₀ rows i = Filling 0 (allLinks t) 32 (t .count) rows i
+Inv-loop t x rows₀ i₀ rows i = Filling 0 (allLinks t) maxServices (t .count) rows i
 
 abbrev μ-loop : tie.MeasureT-loop
 μ-loop t x rows₀ i₀ rows i = t .count - i

@@ -3,13 +3,14 @@ use borrow.Author.Needs.{needs}
 use Prim.Native.Nat.{_-_}
 use mathlib.Core.Path.{refl}
 use Rattle.base.proofs.Filled.{Filling, filling-none, filling-more, filling-all}
+use Rattle.service.specs.Limits.{maxServices}
 use Rattle.service.specs.Settings.{settingsAt}
 use Rattle.rules.specs.Dependencies.{allLinks}
 use Rattle.wellformed.proofs.link_rows.Statement.{statement}
 use Rattle.wellformed.proofs.link_rows.Tie as tie
 
 abbrev Inv-loop : tie.InvT-loop
-Inv-loop t rows₀ i₀ rows i = Filling 0 (allLinks t) 32 (t .count) rows i
+Inv-loop t rows₀ i₀ rows i = Filling 0 (allLinks t) maxServices (t .count) rows i
 
 abbrev μ-loop : tie.MeasureT-loop
 μ-loop t rows₀ i₀ rows i = t .count - i

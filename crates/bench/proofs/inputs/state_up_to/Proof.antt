@@ -5,10 +5,10 @@ use Rattle.bench.proofs.inputs.state_up_to.Statement.{statement}
 use Rattle.bench.proofs.inputs.state_up_to.Tie as tie
 
 abbrev Inv-loop : tie.InvT-loop
-Inv-loop first-waiting n x₀ i₀ x i = Unit {0}
+Inv-loop first-waiting n not-before x₀ i₀ x i = Unit {0}
 
 abbrev μ-loop : tie.MeasureT-loop
-μ-loop first-waiting n x₀ i₀ x i = 32 - i
+μ-loop first-waiting n not-before x₀ i₀ x i = 32 - i
 
 pub state-up-to-spec : {M : Type 1} → statement M
 state-up-to-spec =
@@ -18,6 +18,7 @@ state-up-to-spec =
     μ-loop
     (λ c κs. search needs)
     (λ c. search needs)
+    (λ c κs. search needs)
     (λ c κs. search needs)
     (λ c κs. search needs)
     (λ c. search needs)

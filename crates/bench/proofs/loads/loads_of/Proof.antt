@@ -1,16 +1,14 @@
--- `bench::loads::loads_of` is safe and ends. The measure is the number of turns that are left. The buffer of the tokens keeps its length.
+-- `bench::loads::loads_of` is safe and ends. The measure is the number of turns that are left. Nothing has to hold from turn to turn.
 use Prim.Native.Nat.{_-_}
-use mathlib.Core.Path.{_≡_}
-use lib.ListN.{length}
 use borrow.Author.Needs.{needs}
 use Rattle.bench.proofs.loads.loads_of.Statement.{statement}
 use Rattle.bench.proofs.loads.loads_of.Tie as tie
 
 abbrev Inv-loop : tie.InvT-loop
-Inv-loop lent ends n turns tokens₀ sum₀ k₀ tokens sum k = length tokens ≡ 65536
+Inv-loop lent ends tokens₀ n turns sum₀ k₀ tokens sum k = Unit {0}
 
 abbrev μ-loop : tie.MeasureT-loop
-μ-loop lent ends n turns tokens₀ sum₀ k₀ tokens sum k = turns - k
+μ-loop lent ends tokens₀ n turns sum₀ k₀ tokens sum k = turns - k
 
 pub loads-of-spec : {M : Type 1} → statement M
 loads-of-spec =
@@ -19,8 +17,6 @@ loads-of-spec =
     Inv-loop
     μ-loop
     (λ c. search needs)
-    (λ c. search needs)
-    (λ c κs. search needs)
     (λ c κs. search needs)
     (λ c κs. search needs)
     (λ c. search needs)

@@ -5,10 +5,10 @@ use Rattle.bench.proofs.loops.queries.Statement.{statement}
 use Rattle.bench.proofs.loops.queries.Tie as tie
 
 abbrev Inv-loop : tie.InvT-loop
-Inv-loop t n turns x₀ sum₀ k₀ x sum k = Unit {0}
+Inv-loop t x₀ n turns sum₀ k₀ x sum k = Unit {0}
 
 abbrev μ-loop : tie.MeasureT-loop
-μ-loop t n turns x₀ sum₀ k₀ x sum k = turns - k
+μ-loop t x₀ n turns sum₀ k₀ x sum k = turns - k
 
 pub queries-spec : {M : Type 1} → statement M
 queries-spec =
@@ -17,7 +17,6 @@ queries-spec =
     Inv-loop
     μ-loop
     (λ c. search needs)
-    (λ c κs. search needs)
     (λ c κs. search needs)
     (λ c κs. search needs)
     (λ c κs. search needs)

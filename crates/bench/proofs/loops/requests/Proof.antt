@@ -5,10 +5,10 @@ use Rattle.bench.proofs.loops.requests.Statement.{statement}
 use Rattle.bench.proofs.loops.requests.Tie as tie
 
 abbrev Inv-loop : tie.InvT-loop
-Inv-loop t n turns s b x₀ sum₀ k₀ x sum k = Unit {0}
+Inv-loop t n turns x₀ s b sum₀ k₀ x sum k = Unit {0}
 
 abbrev μ-loop : tie.MeasureT-loop
-μ-loop t n turns s b x₀ sum₀ k₀ x sum k = turns - k
+μ-loop t n turns x₀ s b sum₀ k₀ x sum k = turns - k
 
 pub requests-spec : {M : Type 1} → statement M
 requests-spec =
@@ -20,7 +20,6 @@ requests-spec =
     (λ c. search needs)
     (λ c. search needs)
     (λ c. search needs)
-    (λ c κs. search needs)
     (λ c κs. search needs)
     (λ c κs. search needs)
     (λ c κs. search needs)

@@ -1,16 +1,14 @@
--- `bench::loops::runs` is safe and ends. The measure is the number of turns that are left. The two arrays keep their lengths.
+-- `bench::loops::runs` is safe and ends. The measure is the number of turns that are left. Nothing has to hold from turn to turn.
 use Prim.Native.Nat.{_-_}
-use mathlib.Core.Path.{_≡_}
-use lib.ListN.{length}
 use borrow.Author.Needs.{needs}
 use Rattle.bench.proofs.loops.runs.Statement.{statement}
 use Rattle.bench.proofs.loops.runs.Tie as tie
 
 abbrev Inv-loop : tie.InvT-loop
-Inv-loop t before n turns s services₀ actions₀ x₀ sum₀ k₀ services actions x sum k = (length services ≡ 128) × (length actions ≡ 128)
+Inv-loop t before services₀ actions₀ n turns s x₀ sum₀ k₀ services actions x sum k = Unit {0}
 
 abbrev μ-loop : tie.MeasureT-loop
-μ-loop t before n turns s services₀ actions₀ x₀ sum₀ k₀ services actions x sum k = turns - k
+μ-loop t before services₀ actions₀ n turns s x₀ sum₀ k₀ services actions x sum k = turns - k
 
 pub runs-spec : {M : Type 1} → statement M
 runs-spec =
@@ -19,14 +17,9 @@ runs-spec =
     Inv-loop
     μ-loop
     (λ c. search needs)
-    (λ c. search needs)
-    (λ c. search needs)
-    (λ c κs. search needs)
-    (λ c κs. search needs)
     (λ c κs. search needs)
     (λ c. search needs)
     (λ c. search needs)
-    (λ c κs. search needs)
     (λ c. search needs)
     (λ c. search needs)
     (λ c κs. search needs)
