@@ -5,7 +5,6 @@ mod given;
 mod listing;
 mod loading;
 mod output;
-mod setting;
 mod writing;
 
 use calls::call;
