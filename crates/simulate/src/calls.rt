@@ -1,8 +1,4 @@
 // The calls that lines ask for; each puts its answer into the output, and answers the place after it.
-use crate::answers::event_reply;
-use crate::answers::next_reply;
-use crate::answers::query_reply;
-use crate::answers::refused_reply;
 use crate::output::Output;
 use crate::writing::put_reply;
 use crate::writing::put_run;
@@ -13,6 +9,10 @@ use numbered::event;
 use numbered::next_action;
 use numbered::query;
 use numbered::run_to_quiet;
+use replies::event_reply;
+use replies::next_reply;
+use replies::query_reply;
+use replies::refused_reply;
 use scenario::Command;
 use scenario::END;
 use scenario::NEXT;

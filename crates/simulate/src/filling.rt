@@ -4,12 +4,12 @@ use crate::output::put;
 use crate::output::put_bytes;
 use crate::output::put_number;
 use crate::output::put_set;
-use crate::texts::CAUSES;
-use crate::texts::KINDS;
-use crate::texts::PHASES;
-use crate::texts::RESTARTS;
-use crate::texts::SIGNALS;
-use crate::texts::TEXTS;
+use replies::CAUSES;
+use replies::KINDS;
+use replies::PHASES;
+use replies::RESTARTS;
+use replies::SIGNALS;
+use replies::TEXTS;
 use words::piece;
 
 fn is_mark(byte: u8) -> bool {

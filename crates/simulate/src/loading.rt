@@ -1,5 +1,4 @@
 // A load: the services given so far are lent to the loader, and what it gives is kept in numbers.
-use crate::answers::load_reply;
 use crate::given::Buffer;
 use crate::given::Given;
 use crate::given::Positions;
@@ -11,6 +10,7 @@ use encoding::Numbers;
 use numbered::Counts;
 use numbered::Load;
 use numbered::load;
+use replies::load_reply;
 use scenario::Command;
 use scenario::LOAD;
 use scenario::LOAD_AT;

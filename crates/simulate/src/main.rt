@@ -1,17 +1,12 @@
 // Reads a scenario from standard input, and writes the answer to each of its calls.
-mod answers;
 mod calls;
 mod filling;
 mod given;
 mod listing;
 mod loading;
 mod output;
-mod setting;
-mod texts;
 mod writing;
 
-use answers::bad_reply;
-use answers::ok_reply;
 use calls::call;
 use encoding::Numbers;
 use filling::number_at;
@@ -28,6 +23,8 @@ use loading::load_line;
 use numbered::Counts;
 use output::Output;
 use output::write_rest;
+use replies::bad_reply;
+use replies::ok_reply;
 use scenario::ADD_LINE;
 use scenario::ADD_PIECE;
 use scenario::BAD;

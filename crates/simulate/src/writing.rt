@@ -1,14 +1,14 @@
 // An answer, and the actions of a run, put into the output.
-use crate::answers::Reply;
-use crate::answers::action_signal;
-use crate::answers::action_text;
 use crate::filling::number_at;
 use crate::filling::put_line;
 use crate::filling::put_numbered;
 use crate::filling::put_text;
 use crate::output::Output;
 use crate::output::put;
-use crate::texts::RUN_COUNT;
+use replies::RUN_COUNT;
+use replies::Reply;
+use replies::action_signal;
+use replies::action_text;
 
 pub(crate) fn put_reply(out: &mut Output, at: usize, reply: Reply) -> usize {
     let numbers = [reply.first, reply.second, reply.third];

@@ -1,0 +1,36 @@
+-- `set_state` meets its contract: the verb decides.
+use borrow.Author.Needs.{needs}
+use borrow.Author.Tests.{ne-eqb, le-leb, lt-leb}
+use Rattle.setting.specs.Setting.{stateAfter}
+use Rattle.setting.proofs.set_state.Statement.{statement}
+use Rattle.setting.proofs.set_state.Tie as tie
+
+returns : tie.Need-returns
+unfolding stateAfter
+returns c = rw (c .before .before .if1 .taken) (c .set-first .ensures)
+
+returns-2 : tie.Need-returns-2
+unfolding stateAfter
+returns-2 c =
+    rw
+    (ne-eqb _ _ (c .before .before .before .before .if1 .left), le-leb _ _ (c .before .before .before .if2 .taken), le-leb _ _ (c .before .before .if3 .taken))
+    (c .set-record .ensures)
+
+returns-3 : tie.Need-returns-3
+unfolding stateAfter
+returns-3 c = rw (ne-eqb _ _ (c .before .before .if1 .left), le-leb _ _ (c .before .if2 .taken), lt-leb _ _ (c .if3 .left))
+
+returns-4 : tie.Need-returns-4
+unfolding stateAfter
+returns-4 c = rw (ne-eqb _ _ (c .before .if1 .left), lt-leb _ _ (c .if2 .left))
+
+pub set-state-spec : {M : Type 1} → statement M
+set-state-spec =
+    tie.close
+    (tie.spec
+    (λ c κs. search needs)
+    (λ c κs. search needs)
+    returns
+    returns-2
+    returns-3
+    returns-4)

@@ -1,0 +1,37 @@
+-- `set_table` meets its contract: the verb decides.
+use borrow.Author.Needs.{needs}
+use borrow.Author.Tests.{ne-eqb, le-leb, lt-leb}
+use Rattle.setting.specs.Setting.{tableAfter}
+use Rattle.setting.proofs.set_table.Statement.{statement}
+use Rattle.setting.proofs.set_table.Tie as tie
+
+returns : tie.Need-returns
+unfolding tableAfter
+returns c = rw (c .before .before .if1 .taken) (c .set-first .ensures)
+
+returns-2 : tie.Need-returns-2
+unfolding tableAfter
+returns-2 c =
+    rw
+    (ne-eqb _ _ (c .before .before .before .before .before .if1 .left), le-leb _ _ (c .before .before .before .before .if2 .taken), le-leb _ _ (c .before .before .before .if3 .taken), ← c .before .setting-place .ensures)
+    (c .set-number .ensures)
+
+returns-3 : tie.Need-returns-3
+unfolding tableAfter
+returns-3 c = rw (ne-eqb _ _ (c .before .before .if1 .left), le-leb _ _ (c .before .if2 .taken), lt-leb _ _ (c .if3 .left))
+
+returns-4 : tie.Need-returns-4
+unfolding tableAfter
+returns-4 c = rw (ne-eqb _ _ (c .before .if1 .left), lt-leb _ _ (c .if2 .left))
+
+pub set-table-spec : {M : Type 1} → statement M
+set-table-spec =
+    tie.close
+    (tie.spec
+    (λ c κs. search needs)
+    (λ c κs. search needs)
+    (λ c κs. search needs)
+    returns
+    returns-2
+    returns-3
+    returns-4)
