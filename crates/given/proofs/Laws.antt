@@ -78,13 +78,13 @@ module _ (g : Given) (bs d p : List ℕ) where
   name-not l = rw (le-ltb (g .begun) keptServices l)
 
   -- a text, where the last service is kept and its text is not full; and where not
-  pub text-kept : {kept d′ : List ℕ} {to : ℕ} → 1 ≤ g .begun → g .begun ≤ keptServices → g .text < keptText
-      → kept ≡ take (keptText - g .text) bs → Kept d (g .bytes) kept d′ to
-      → held (record { begun = g .begun; bytes = to; text = g .text + length kept }) d′ (set p (textEnd (g .begun - 1)) to)
+  pub text-kept : {kept d′ : List ℕ} {to end : ℕ} → 1 ≤ g .begun → g .begun ≤ keptServices → g .text < keptText
+      → kept ≡ take (keptText - g .text) bs → Kept d (g .bytes) kept d′ to → end ≡ to
+      → held (record { begun = g .begun; bytes = to; text = g .text + length kept }) d′ (set p (textEnd (g .begun - 1)) end)
       ≡ afterText bs (held g d p)
   unfolding afterText
-  text-kept some few l e k =
-      rw (le-leb 1 (g .begun) some, le-leb (g .begun) keptServices few, lt-ltb (g .text) keptText l, k .next, k .buffer, e)
+  text-kept some few l e k q =
+      rw (le-leb 1 (g .begun) some, le-leb (g .begun) keptServices few, lt-ltb (g .text) keptText l, q, k .next, k .buffer, e)
 
   pub text-none : g .begun < 1 → held g d p ≡ afterText bs (held g d p)
   unfolding afterText

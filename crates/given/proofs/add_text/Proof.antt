@@ -16,7 +16,7 @@ returns-3 c = text-full _ _ _ _ (c .before .before .if1 .left) (c .before .if2 .
 returns-4 : tie.Need-returns-4
 returns-4 c =
     text-kept _ _ _ _ (c .before .before .before .before .before .if1 .left) (c .before .before .before .before .if2 .left)
-    (c .before .before .before .if3 .left) (c .before .before .leading .ensures .0) (c .keep-bytes .ensures)
+    (c .before .before .before .if3 .left) (c .before .before .leading .ensures .0) (c .keep-bytes .ensures) (search needs)
 
 pub add-text-spec : {M : Type 1} → statement M
 add-text-spec =
