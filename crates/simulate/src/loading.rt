@@ -1,23 +1,19 @@
 // A load: the services given so far are lent to the loader, and what it gives is kept in numbers.
-use crate::given::Buffer;
-use crate::given::Given;
-use crate::given::Positions;
-use crate::given::own_end;
 use crate::listing::put_services;
 use crate::output::Output;
 use crate::writing::put_reply;
 use encoding::Numbers;
+use given::Buffer;
+use given::Given;
+use given::Positions;
+use given::lent_positions;
+use given::take_positions;
 use numbered::Counts;
 use numbered::Load;
 use numbered::load;
 use replies::load_reply;
 use scenario::Command;
-use scenario::LOAD;
-use scenario::LOAD_AT;
-use scenario::MOST_POSITIONS;
 use text::part;
-use words::number;
-use words::piece;
 
 pub(crate) type TokenBuffer = [u8; 65536];
 
@@ -28,44 +24,6 @@ pub(crate) struct Stand {
     pub(crate) loaded: bool,
     pub(crate) count: u64,
     pub(crate) to: usize,
-}
-
-fn put_position(positions: &mut Positions, i: usize, position: u64) {
-    if i < positions.len() {
-        positions[i] = position as usize;
-    }
-}
-
-// Puts the positions that a line gives, which are its words from the third on, to the front.
-fn read_positions(line: &[u8], count: usize, positions: &mut Positions) {
-    let mut i: usize = 0;
-    while i < MOST_POSITIONS {
-        if count <= i {
-            break;
-        }
-        let read = number(piece(line, b' ', i + 2));
-        put_position(positions, i, read.value);
-        i += 1;
-    }
-}
-
-fn range(positions: &[usize], from: usize, end: usize) -> &[usize] {
-    if from <= end {
-        if end <= positions.len() {
-            return &positions[from..end];
-        }
-    }
-    &positions[..0]
-}
-
-// The positions that a load lends: those of the line, or the services' own.
-fn lent_positions(positions: &Positions, command: Command, begun: usize) -> &[usize] {
-    let verb = command.verb;
-    match verb {
-        LOAD => range(positions, MOST_POSITIONS, own_end(begun)),
-        LOAD_AT => range(positions, 0, command.last as usize),
-        _ => range(positions, 0, 0),
-    }
 }
 
 // Loads with a token buffer of so many bytes.
@@ -99,13 +57,6 @@ fn load_given(
     let lent = part(buffer, 0, given.bytes);
     let ends = lent_positions(positions, command, given.begun);
     load_in(lent, ends, command.first, tokens, table, state, counts)
-}
-
-// Takes the positions of a line that gives them.
-fn take_positions(command: Command, line: &[u8], positions: &mut Positions) {
-    if command.verb == LOAD_AT {
-        read_positions(line, command.last as usize, positions);
-    }
 }
 
 // Puts the loaded services, none where the load was refused, and the answer.

@@ -1,7 +1,6 @@
 // Reads a scenario from standard input, and writes the answer to each of its calls.
 mod calls;
 mod filling;
-mod given;
 mod listing;
 mod loading;
 mod output;
@@ -13,6 +12,7 @@ use filling::number_at;
 use given::Buffer;
 use given::Given;
 use given::Positions;
+use given::bare;
 use given::given_after;
 use libc::STDIN_FILENO;
 use listing::put_state;
@@ -67,11 +67,6 @@ fn one_more(n: u64) -> u64 {
         return n + 1;
     }
     n
-}
-
-// A line without the newline that ends it.
-fn bare(line: &[u8]) -> &[u8] {
-    part(line, 0, line_end(line, 0))
 }
 
 // What a line asks for, where a scenario has come to.
