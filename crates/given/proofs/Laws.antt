@@ -8,6 +8,7 @@ use native.Mathlib.Omega.{arith}
 use lib.ListN.{length, getD, set, take, drop, drop-of-length-le}
 use lib.Seq.{sets, drop-cons}
 use borrow.Author.Tests.{le-leb, lt-leb, lt-ltb, le-ltb}
+use Rattle.text.specs.Strings.{partOf}
 use Rattle.given.specs.declared.Given.{Given}
 use Rattle.given.specs.Keeping.{keptServices, keptName, keptText, room, held, fitting, Kept, nameEnd, textEnd, afterName, afterText}
 
@@ -16,6 +17,11 @@ pub take-few : (n : ℕ) (bs : List ℕ) → length (take n bs) ≤ n
 take-few zero bs = zero-le
 take-few (suc n) [] = zero-le
 take-few (suc n) (b ∷ bs) = suc-le-suc (take-few n bs)
+
+-- from 0 to 0 there is nothing
+pub part-none : (l : List ℕ) → partOf l 0 0 ≡ []
+unfolding partOf
+part-none l = rw (le-leb 0 (length l) zero-le)
 
 -- past the room nothing fits, and of nothing nothing does
 fitting-full : (to : ℕ) (bs : List ℕ) → room ≤ to → fitting to bs ≡ []

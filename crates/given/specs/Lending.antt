@@ -1,6 +1,6 @@
 -- The positions that a load lends: those that its line gives, or where the names and texts given so far end.
 use Prim.Native.Nat.{ℕ, _+_, _*_}
-use mathlib.Core.List.{List}
+use mathlib.Core.List.{List, []}
 use lib.Dec.{eqb, ltb}
 use lib.ListN.{set}
 use Rattle.base.specs.Folds.{pick, fold}
@@ -32,4 +32,4 @@ ownEnd n = mostPositions + 2 * least n keptServices
 unfoldable pub lentPositions : List ℕ → Command → ℕ → List ℕ
 lentPositions p c n =
     pick (eqb (c .verb) load) (partOf p mostPositions (ownEnd n))
-    (pick (eqb (c .verb) loadAt) (partOf p 0 (c .last)) (partOf p 0 0))
+    (pick (eqb (c .verb) loadAt) (partOf p 0 (c .last)) [])

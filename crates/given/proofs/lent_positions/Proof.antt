@@ -4,6 +4,7 @@ use borrow.Author.Tests.{ne-eqb}
 use denote.Ref.{now}
 use Rattle.text.specs.Strings.{partOf}
 use Rattle.given.specs.Lending.{lentPositions}
+use Rattle.given.proofs.Laws.{part-none}
 use borrow.Author.Needs.{needs}
 use Rattle.given.proofs.lent_positions.Statement.{statement}
 use Rattle.given.proofs.lent_positions.Tie as tie
@@ -18,7 +19,7 @@ returns-2 c = rw (ne-eqb _ _ (c .before .before .before .if1 .left), c .before .
 
 returns-3 : tie.Need-returns-3
 unfolding lentPositions
-returns-3 c = rw (ne-eqb _ _ (c .before .before .before .if1 .left), ne-eqb _ _ (c .before .before .if2 .left)) (c .range3 .ensures)
+returns-3 c = rw (ne-eqb _ _ (c .before .before .before .if1 .left), ne-eqb _ _ (c .before .before .if2 .left)) (c .range3 .ensures ∙ part-none (now (c .before .before .before .before .args .positions)))
 
 pub lent-positions-spec : {M : Type 1} → statement M
 lent-positions-spec =
