@@ -70,7 +70,11 @@ fn run_in(
             return run_to_quiet(table, state, &mut services[0..a], &mut actions[0..b]);
         }
     }
-    run_to_quiet(table, state, services, actions)
+    // No line asks for more.
+    Run {
+        refusal: 25,
+        count: 0,
+    }
 }
 
 // How many places a run is lent: those of the line, or all.

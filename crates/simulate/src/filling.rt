@@ -47,8 +47,9 @@ pub(crate) fn number_at(numbers: &[u64], i: usize) -> u64 {
     if i < numbers.len() { numbers[i] } else { 0 }
 }
 
-// Puts a text with a number at each mark.
-fn put_marked(out: &mut Output, at: usize, texts: &[u8], text: &[u8], numbers: &[u64]) -> usize {
+// Puts a text, by its place, with a number at each mark.
+fn put_marked(out: &mut Output, at: usize, texts: &[u8], place: usize, numbers: &[u64]) -> usize {
+    let text = piece(texts, b'\n', place);
     let mut to = at;
     let mut k: usize = 0;
     let mut i: usize = 0;
@@ -65,24 +66,20 @@ fn put_marked(out: &mut Output, at: usize, texts: &[u8], text: &[u8], numbers: &
     to
 }
 
-fn put_text_of(out: &mut Output, at: usize, texts: &[u8], text: usize, numbers: &[u64]) -> usize {
-    put_marked(out, at, texts, piece(texts, b'\n', text), numbers)
-}
-
-// Puts a text by its place, with the numbers of its marks. The texts are lent here and only here: a constant is spelled out
-// at each point of a function that names it, which makes such a function dear to check.
-pub(crate) fn put_text(out: &mut Output, at: usize, text: usize, numbers: &[u64]) -> usize {
-    put_text_of(out, at, &TEXTS, text, numbers)
+// The same of the format's texts. They are lent here and only here: a constant is spelled out at each point of a function that
+// names it, which makes such a function dear to check.
+pub(crate) fn put_text(out: &mut Output, at: usize, place: usize, numbers: &[u64]) -> usize {
+    put_marked(out, at, &TEXTS, place, numbers)
 }
 
 // The same as a line.
-pub(crate) fn put_line(out: &mut Output, at: usize, text: usize, numbers: &[u64]) -> usize {
-    let to = put_text(out, at, text, numbers);
+pub(crate) fn put_line(out: &mut Output, at: usize, place: usize, numbers: &[u64]) -> usize {
+    let to = put_text(out, at, place, numbers);
     put(out, to, b'\n')
 }
 
 // Puts a text of the format that has one number.
-pub(crate) fn put_numbered(out: &mut Output, at: usize, text: usize, n: u64) -> usize {
+pub(crate) fn put_numbered(out: &mut Output, at: usize, place: usize, n: u64) -> usize {
     let numbers = [n];
-    put_text(out, at, text, &numbers)
+    put_text(out, at, place, &numbers)
 }

@@ -6,6 +6,7 @@ use encoding::Numbers;
 use given::Buffer;
 use given::Given;
 use given::Positions;
+use given::bare;
 use given::lent_positions;
 use given::take_positions;
 use numbered::Counts;
@@ -40,7 +41,13 @@ fn load_in(
     if most <= tokens.len() {
         return load(lent, ends, &mut tokens[0..most], table, state, counts);
     }
-    load(lent, ends, tokens, table, state, counts)
+    // No line asks for more.
+    Load {
+        number: 25,
+        service: 0,
+        line: 0,
+        count: 0,
+    }
 }
 
 // Loads the services given so far.
@@ -90,7 +97,7 @@ pub(crate) fn load_line(
     out: &mut Output,
 ) -> Stand {
     let given = stand.given;
-    take_positions(command, line, positions);
+    take_positions(command, bare(line), positions);
     let load = load_given(
         command,
         given,

@@ -156,7 +156,7 @@ fn obey(
         LOAD | LOAD_NONE | LOAD_AT => load_line(
             stand,
             command,
-            bare(line),
+            line,
             buffer,
             positions,
             tokens,

@@ -5,6 +5,7 @@ use crate::filling::put_numbered;
 use crate::filling::put_text;
 use crate::output::Output;
 use crate::output::put;
+use crate::output::put_bytes;
 use replies::RUN_COUNT;
 use replies::Reply;
 use replies::action_signal;
@@ -20,11 +21,6 @@ fn put_action(out: &mut Output, at: usize, service: u64, action: u64) -> usize {
     put_text(out, at, action_text(action), &numbers)
 }
 
-fn put_parting(out: &mut Output, at: usize) -> usize {
-    let to = put(out, at, b';');
-    put(out, to, b' ')
-}
-
 // The actions of a run, so many, each after a parting.
 fn put_actions(
     out: &mut Output,
@@ -36,7 +32,7 @@ fn put_actions(
     let mut to = at;
     let mut i: usize = 0;
     while i < count {
-        to = put_parting(out, to);
+        to = put_bytes(out, to, b"; ");
         to = put_action(out, to, number_at(services, i), number_at(actions, i));
         i += 1;
     }

@@ -6,10 +6,10 @@ use Rattle.simulate.proofs.filling.put_marked.Statement.{statement}
 use Rattle.simulate.proofs.filling.put_marked.Tie as tie
 
 abbrev Inv-loop : tie.InvT-loop
-Inv-loop out₀ at texts text numbers to₀ k₀ i₀ out to k i = (k ≤ i) × (i ≤ length text)
+Inv-loop out₀ at texts place numbers text to₀ k₀ i₀ out to k i = (k ≤ i) × (i ≤ length text)
 
 abbrev μ-loop : tie.MeasureT-loop
-μ-loop out₀ at texts text numbers to₀ k₀ i₀ out to k i = length text - i
+μ-loop out₀ at texts place numbers text to₀ k₀ i₀ out to k i = length text - i
 
 pub put-marked-spec : {M : Type 1} → statement M
 put-marked-spec =
@@ -17,6 +17,7 @@ put-marked-spec =
     (tie.spec
     Inv-loop
     μ-loop
+    (λ c κs. search needs)
     (λ c. search needs)
     (λ c. search needs)
     (λ c. search needs)

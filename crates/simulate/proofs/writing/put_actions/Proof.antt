@@ -5,10 +5,10 @@ use Rattle.simulate.proofs.writing.put_actions.Statement.{statement}
 use Rattle.simulate.proofs.writing.put_actions.Tie as tie
 
 abbrev Inv-loop : tie.InvT-loop
-Inv-loop out₀ at count services actions to₀ i₀ out to i = i ≤ count
+Inv-loop out₀ at count services actions to₀ i₀ t8 out to i = i ≤ count
 
 abbrev μ-loop : tie.MeasureT-loop
-μ-loop out₀ at count services actions to₀ i₀ out to i = count - i
+μ-loop out₀ at count services actions to₀ i₀ t8 out to i = count - i
 
 pub put-actions-spec : {M : Type 1} → statement M
 put-actions-spec =
@@ -16,6 +16,7 @@ put-actions-spec =
     (tie.spec
     Inv-loop
     μ-loop
+    (λ c. search needs)
     (λ c. search needs)
     (λ c κs. search needs)
     (λ c κs. search needs)
