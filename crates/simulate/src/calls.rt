@@ -1,4 +1,4 @@
-// The calls that lines ask for; each puts its answer into the output, and answers the place after it.
+// What lines ask of table and state: a line that sets a number, and the calls, with their answers.
 use crate::output::Output;
 use crate::writing::put_reply;
 use crate::writing::put_run;
@@ -9,19 +9,25 @@ use numbered::event;
 use numbered::next_action;
 use numbered::query;
 use numbered::run_to_quiet;
+use replies::Reply;
+use replies::bad_reply;
 use replies::event_reply;
 use replies::next_reply;
+use replies::ok_reply;
 use replies::query_reply;
 use replies::refused_reply;
+use scenario::BAD;
 use scenario::Command;
 use scenario::END;
 use scenario::NEXT;
 use scenario::QUERY;
 use scenario::RUN;
-use scenario::RUN_IN;
+use scenario::SET_CLOCK;
+use scenario::SET_TABLE_LAST;
 use scenario::START;
 use scenario::STOP;
 use scenario::STOP_ALL;
+use setting::set;
 
 fn event_of(command: Command) -> Event {
     let verb = command.verb;
@@ -36,24 +42,26 @@ fn event_of(command: Command) -> Event {
     }
 }
 
-fn call_event(
-    out: &mut Output,
-    at: usize,
-    table: &Numbers,
-    state: &mut Numbers,
+fn set_line(table: &mut Numbers, state: &mut Numbers, command: Command) -> Reply {
+    set(table, state, command);
+    ok_reply()
+}
+
+// Obeys a line of this number whose answer is one reply: every call but a run, a line that sets a number, and a bad one.
+pub(crate) fn reply_to(
+    number: u64,
     command: Command,
-) -> usize {
-    let refusal = event(table, state, event_of(command));
-    put_reply(out, at, event_reply(refusal))
-}
-
-fn call_next(out: &mut Output, at: usize, table: &Numbers, state: &mut Numbers) -> usize {
-    let next = next_action(table, state);
-    put_reply(out, at, next_reply(next))
-}
-
-fn call_query(out: &mut Output, at: usize, table: &Numbers, state: &Numbers) -> usize {
-    put_reply(out, at, query_reply(query(table, state)))
+    table: &mut Numbers,
+    state: &mut Numbers,
+) -> Reply {
+    let verb = command.verb;
+    match verb {
+        BAD => bad_reply(number),
+        NEXT => next_reply(next_action(table, state)),
+        QUERY => query_reply(query(table, state)),
+        SET_CLOCK..=SET_TABLE_LAST => set_line(table, state, command),
+        _ => event_reply(event(table, state, event_of(command))),
+    }
 }
 
 // A run that is lent so many of the places.
@@ -93,7 +101,8 @@ fn put_ran(out: &mut Output, at: usize, run: Run, services: &[u64], actions: &[u
     put_reply(out, at, refused_reply(run.refusal))
 }
 
-fn call_run(
+// Makes a run, and puts its answer.
+pub(crate) fn call_run(
     out: &mut Output,
     at: usize,
     table: &Numbers,
@@ -106,21 +115,4 @@ fn call_run(
     let b = lent_places(command.verb, command.last);
     let run = run_in(table, state, a, b, &mut services, &mut actions);
     put_ran(out, at, run, &services, &actions)
-}
-
-// Makes the call of a line.
-pub(crate) fn call(
-    out: &mut Output,
-    at: usize,
-    table: &Numbers,
-    state: &mut Numbers,
-    command: Command,
-) -> usize {
-    let verb = command.verb;
-    match verb {
-        NEXT => call_next(out, at, table, state),
-        RUN | RUN_IN => call_run(out, at, table, state, command),
-        QUERY => call_query(out, at, table, state),
-        _ => call_event(out, at, table, state, command),
-    }
 }

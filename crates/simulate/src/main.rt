@@ -6,7 +6,8 @@ mod loading;
 mod output;
 mod writing;
 
-use calls::call;
+use calls::call_run;
+use calls::reply_to;
 use encoding::Numbers;
 use filling::number_at;
 use given::Buffer;
@@ -23,23 +24,19 @@ use loading::load_line;
 use numbered::Counts;
 use output::Output;
 use output::write_rest;
-use replies::bad_reply;
-use replies::ok_reply;
 use scenario::ADD_LINE;
 use scenario::ADD_PIECE;
-use scenario::BAD;
 use scenario::BEGIN;
 use scenario::Command;
 use scenario::LOAD;
 use scenario::LOAD_AT;
 use scenario::LOAD_NONE;
 use scenario::NOTHING;
-use scenario::SET_CLOCK;
-use scenario::SET_TABLE_LAST;
+use scenario::RUN;
+use scenario::RUN_IN;
 use scenario::SHOW;
 use scenario::STATE;
 use scenario::read_line;
-use setting::set;
 use text::line_end;
 use text::part;
 use writing::put_reply;
@@ -92,17 +89,6 @@ fn give(
     }
 }
 
-fn set_line(
-    out: &mut Output,
-    at: usize,
-    table: &mut Numbers,
-    state: &mut Numbers,
-    command: Command,
-) -> usize {
-    set(table, state, command);
-    put_reply(out, at, ok_reply())
-}
-
 // Obeys a line that gives and loads nothing, and puts its answer.
 fn tell_line(
     out: &mut Output,
@@ -119,9 +105,8 @@ fn tell_line(
     match verb {
         SHOW => put_table(out, at, table, counts, count, tokens),
         STATE => put_state(out, at, state, number_at(table, 0)),
-        BAD => put_reply(out, at, bad_reply(number)),
-        SET_CLOCK..=SET_TABLE_LAST => set_line(out, at, table, state, command),
-        _ => call(out, at, table, state, command),
+        RUN | RUN_IN => call_run(out, at, table, state, command),
+        _ => put_reply(out, at, reply_to(number, command, table, state)),
     }
 }
 
