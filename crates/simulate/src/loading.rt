@@ -27,19 +27,22 @@ pub(crate) struct Stand {
     pub(crate) to: usize,
 }
 
-// Loads with a token buffer of so many bytes.
-fn load_in(
-    lent: &[u8],
-    ends: &[usize],
-    room: u64,
+// Loads the services given so far, with a token buffer of so many bytes as the line says.
+fn load_given(
+    command: Command,
+    given: Given,
+    buffer: &Buffer,
+    positions: &Positions,
     tokens: &mut [u8],
     table: &mut Numbers,
     state: &mut Numbers,
     counts: &mut Counts,
 ) -> Load {
-    let most = room as usize;
-    if most <= tokens.len() {
-        return load(lent, ends, &mut tokens[0..most], table, state, counts);
+    let room = command.first as usize;
+    let lent = part(buffer, 0, given.bytes);
+    let ends = lent_positions(positions, command, given.begun);
+    if room <= tokens.len() {
+        return load(lent, ends, &mut tokens[0..room], table, state, counts);
     }
     // No line asks for more.
     Load {
@@ -48,22 +51,6 @@ fn load_in(
         line: 0,
         count: 0,
     }
-}
-
-// Loads the services given so far.
-fn load_given(
-    command: Command,
-    given: Given,
-    buffer: &Buffer,
-    positions: &Positions,
-    tokens: &mut TokenBuffer,
-    table: &mut Numbers,
-    state: &mut Numbers,
-    counts: &mut Counts,
-) -> Load {
-    let lent = part(buffer, 0, given.bytes);
-    let ends = lent_positions(positions, command, given.begun);
-    load_in(lent, ends, command.first, tokens, table, state, counts)
 }
 
 // Puts the loaded services, none where the load was refused, and the answer.

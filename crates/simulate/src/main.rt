@@ -248,14 +248,10 @@ fn play(scenario: &[u8], out: &mut Output) -> usize {
     )
 }
 
-fn run(input: &mut [u8], out: &mut Output) {
-    let n = read_scenario(input);
-    let at = play(part(input, 0, n), out);
-    write_rest(out, at);
-}
-
 fn main() {
     let mut input = [0u8; 262145];
     let mut out = io::large_buffer();
-    run(&mut input, &mut out);
+    let n = read_scenario(&mut input);
+    let at = play(part(&input, 0, n), &mut out);
+    write_rest(&out, at);
 }
