@@ -1,3 +1,4 @@
+-- The definitions, each file after those that it cites.
 pub mod Values
 pub mod Numbers
 pub mod Examples

@@ -1,1 +1,2 @@
+-- The laws, each file after those that it cites.
 pub mod Next
