@@ -4,7 +4,6 @@ use crate::writing::put_reply;
 use crate::writing::put_run;
 use encoding::Numbers;
 use numbered::Event;
-use numbered::Run;
 use numbered::event;
 use numbered::next_action;
 use numbered::query;
@@ -42,11 +41,6 @@ fn event_of(command: Command) -> Event {
     }
 }
 
-fn set_line(table: &mut Numbers, state: &mut Numbers, command: Command) -> Reply {
-    set(table, state, command);
-    ok_reply()
-}
-
 // Obeys a line of this number whose answer is one reply: every call but a run, a line that sets a number, and a bad one.
 pub(crate) fn reply_to(
     number: u64,
@@ -59,29 +53,11 @@ pub(crate) fn reply_to(
         BAD => bad_reply(number),
         NEXT => next_reply(next_action(table, state)),
         QUERY => query_reply(query(table, state)),
-        SET_CLOCK..=SET_TABLE_LAST => set_line(table, state, command),
-        _ => event_reply(event(table, state, event_of(command))),
-    }
-}
-
-// A run that is lent so many of the places.
-fn run_in(
-    table: &Numbers,
-    state: &mut Numbers,
-    a: usize,
-    b: usize,
-    services: &mut [u64],
-    actions: &mut [u64],
-) -> Run {
-    if a <= services.len() {
-        if b <= actions.len() {
-            return run_to_quiet(table, state, &mut services[0..a], &mut actions[0..b]);
+        SET_CLOCK..=SET_TABLE_LAST => {
+            set(table, state, command);
+            ok_reply()
         }
-    }
-    // No line asks for more.
-    Run {
-        refusal: 25,
-        count: 0,
+        _ => event_reply(event(table, state, event_of(command))),
     }
 }
 
@@ -93,15 +69,7 @@ fn lent_places(verb: usize, n: u64) -> usize {
     n as usize
 }
 
-// Puts the answer to a run.
-fn put_ran(out: &mut Output, at: usize, run: Run, services: &[u64], actions: &[u64]) -> usize {
-    if run.refusal == 0 {
-        return put_run(out, at, run.count, services, actions);
-    }
-    put_reply(out, at, refused_reply(run.refusal))
-}
-
-// Makes a run, and puts its answer.
+// Makes a run that is lent so many places as the line says, and puts its answer.
 pub(crate) fn call_run(
     out: &mut Output,
     at: usize,
@@ -113,6 +81,12 @@ pub(crate) fn call_run(
     let mut actions = [0u64; 256];
     let a = lent_places(command.verb, command.first);
     let b = lent_places(command.verb, command.last);
-    let run = run_in(table, state, a, b, &mut services, &mut actions);
-    put_ran(out, at, run, &services, &actions)
+    if a <= 256 {
+        if b <= 256 {
+            let run = run_to_quiet(table, state, &mut services[0..a], &mut actions[0..b]);
+            return put_run(out, at, run, &services, &actions);
+        }
+    }
+    // No line asks for more.
+    put_reply(out, at, refused_reply(25))
 }

@@ -66,12 +66,6 @@ fn one_more(n: u64) -> u64 {
     n
 }
 
-// What a line asks for, where a scenario has come to.
-fn command_of(stand: Stand, line: &[u8]) -> Command {
-    let given = stand.given;
-    read_line(line, 0 < given.begun, stand.loaded)
-}
-
 // Takes what a line gives.
 fn give(
     stand: Stand,
@@ -110,16 +104,6 @@ fn tell_line(
     }
 }
 
-fn told(stand: Stand, to: usize) -> Stand {
-    let given = stand.given;
-    Stand {
-        given,
-        loaded: stand.loaded,
-        count: stand.count,
-        to,
-    }
-}
-
 // Obeys a line of this number, which is lent with its newline.
 fn obey(
     stand: Stand,
@@ -133,7 +117,8 @@ fn obey(
     counts: &mut Counts,
     out: &mut Output,
 ) -> Stand {
-    let command = command_of(stand, bare(line));
+    let given = stand.given;
+    let command = read_line(bare(line), 0 < given.begun, stand.loaded);
     let verb = command.verb;
     match verb {
         NOTHING => stand,
@@ -162,7 +147,12 @@ fn obey(
                 state,
                 counts,
             );
-            told(stand, to)
+            Stand {
+                given,
+                loaded: stand.loaded,
+                count: stand.count,
+                to,
+            }
         }
     }
 }

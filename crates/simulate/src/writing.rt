@@ -6,10 +6,15 @@ use crate::filling::put_text;
 use crate::output::Output;
 use crate::output::put;
 use crate::output::put_bytes;
+use numbered::Run;
 use replies::RUN_COUNT;
 use replies::Reply;
 use replies::action_signal;
 use replies::action_text;
+use replies::refused_reply;
+
+// What a run is lent, for the services or for the actions.
+pub(crate) type Places = [u64; 256];
 
 pub(crate) fn put_reply(out: &mut Output, at: usize, reply: Reply) -> usize {
     let numbers = [reply.first, reply.second, reply.third];
@@ -26,8 +31,8 @@ fn put_actions(
     out: &mut Output,
     at: usize,
     count: usize,
-    services: &[u64],
-    actions: &[u64],
+    services: &Places,
+    actions: &Places,
 ) -> usize {
     let mut to = at;
     let mut i: usize = 0;
@@ -39,15 +44,18 @@ fn put_actions(
     to
 }
 
-// A run's line: how many actions there were, and each of them.
+// A run's line: how many actions there were, and each of them; or its refusal.
 pub(crate) fn put_run(
     out: &mut Output,
     at: usize,
-    count: u64,
-    services: &[u64],
-    actions: &[u64],
+    run: Run,
+    services: &Places,
+    actions: &Places,
 ) -> usize {
-    let told = put_numbered(out, at, RUN_COUNT, count);
-    let to = put_actions(out, told, count as usize, services, actions);
+    if run.refusal != 0 {
+        return put_reply(out, at, refused_reply(run.refusal));
+    }
+    let told = put_numbered(out, at, RUN_COUNT, run.count);
+    let to = put_actions(out, told, run.count as usize, services, actions);
     put(out, to, b'\n')
 }
