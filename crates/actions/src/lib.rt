@@ -9,7 +9,7 @@ use service::Settings;
 use service::Signal;
 ghost use Prim.Native.Nat.{_+_};
 ghost use mathlib.Core.Path.{_≡_};
-ghost use Rattle.service.specs.Numbers.{signalPlace, isQuiet, actionService, actionNumber};
+ghost use Rattle.service.specs.Numbers.{signalNumber, isQuiet, actionService, actionNumber};
 ghost use Rattle.rules.specs.Rules.{begunAction, termAction, endAction, expiredAction, handedBy};
 
 // Rule 6.
@@ -93,7 +93,7 @@ pub fn is_quiet(a: Action) -> bool
 
 // The place of a signal in paper 01's list, after the three other actions.
 fn signal_number(g: Signal) -> u64
-    ensures { λ n. ⌜ n ≡ 3 + signalPlace g ⌝ }
+    ensures { λ n. ⌜ n ≡ 3 + signalNumber g ⌝ }
 {
     match g {
         Signal::None => 3,

@@ -4,7 +4,7 @@ use mathlib.Core.List.{List, [], _∷_}
 use lib.ListN.{getD, set, replicate}
 use Rattle.base.specs.Folds.{fold}
 use Rattle.service.specs.Limits.{maxServices}
-use Rattle.service.specs.Numbers.{signalPlace}
+use Rattle.service.specs.Numbers.{signalNumber}
 use Rattle.service.specs.Records.{freshRecord, recordAt}
 use Rattle.service.specs.Settings.{defaultSettings, settingsAt}
 use Rattle.service.specs.declared.Record.{Record}
@@ -77,7 +77,7 @@ settingsNumbers v =
     ∷ v .limit
     ∷ v .«start_timeout»
     ∷ v .«stop_timeout»
-    ∷ signalPlace (v .signal)
+    ∷ signalNumber (v .signal)
     ∷ v .hard
     ∷ v .milestone
     ∷ v .soft

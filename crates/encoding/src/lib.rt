@@ -16,7 +16,7 @@ ghost use Prim.Native.Nat.{_+_, _*_, _<_, _≤_};
 ghost use lib.ListN.{getD, set};
 ghost use Rattle.base.specs.Folds.{fold};
 ghost use Rattle.service.specs.Limits.{maxServices};
-ghost use Rattle.service.specs.Numbers.{signalPlace, refusalNumber};
+ghost use Rattle.service.specs.Numbers.{signalNumber, refusalNumber};
 ghost use Rattle.encoding.specs.Values.{flagNumber, kindNumber, kindOf, signalOf, phaseNumber, phaseOf, causeNumber, causeOf, timed, timeOf, deadlineOf};
 ghost use Rattle.encoding.specs.Numbers.{placeOf, placed, recordNumbers, recordFrom, stateNumbers, stateOf, settingsNumbers, settingsFrom, tableNumbers, tableOf};
 
@@ -70,7 +70,7 @@ fn kind_of(n: u64) -> Kind
 
 // A signal's place in paper 01's list.
 pub fn signal_number(g: Signal) -> u64
-    ensures { λ n. ⌜ n ≡ signalPlace g ⌝ }
+    ensures { λ n. ⌜ n ≡ signalNumber g ⌝ }
 {
     match g {
         Signal::None => 0,

@@ -8,7 +8,7 @@ use Rattle.base.specs.Folds.{some}
 use Rattle.base.proofs.Below.{every-true, some-true}
 use Rattle.base.proofs.Tests.{tests}
 use Rattle.service.specs.Records.{isDown, isEnding, isNone, isStarting, isUp, isWaiting, recordAt}
-use Rattle.service.specs.Settings.{settingsAt}
+use Rattle.service.specs.Settings.{formOf, settingsAt}
 use Rattle.service.specs.declared.State.{State}
 use Rattle.service.specs.declared.Table.{Table}
 use Rattle.rules.specs.Dependencies.{barred, blocked, depends, hard, needed, serving, soft, strong}
@@ -29,7 +29,7 @@ module _ (t : Table) (x : State) (s : ℕ) where
     pub up : isUp (recordAt x s .phase) ≡ true
     pub caused : isNone (recordAt x s .cause) ≡ false
     pub unblocked : blocked t x s ≡ false
-    pub nothing : nothingToEnd (settingsAt t s .kind) (settingsAt t s .«has_stop») (recordAt x s .live) ≡ true
+    pub nothing : nothingToEnd (formOf (settingsAt t s)) (settingsAt t s .«has_stop») (recordAt x s .live) ≡ true
 
   pub record Waking : Type 0 where
     pub down : isDown (recordAt x s .phase) ≡ true

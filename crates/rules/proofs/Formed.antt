@@ -14,12 +14,12 @@ use Rattle.base.proofs.Below.{every-true}
 use Rattle.base.proofs.Tests.{and-false, and-true, not-true, or-false, tests}
 use Rattle.service.specs.Limits.{lastClock, lastTime, longestTime, maxCount, maxServices}
 use Rattle.service.specs.Records.{freshState, isStarting, recordAt, withRecord}
-use Rattle.service.specs.Settings.{settingsAt}
+use Rattle.service.specs.Settings.{formOf, isPassing, settingsAt}
 use Rattle.service.specs.declared.Cause.{Cause}
 use Rattle.service.specs.declared.Cause.the-variants.{Failed, Fell, None as NoCause, Released, User}
 use Rattle.service.specs.declared.Deadline.the-variants.{At, None as NoDeadline}
-use Rattle.service.specs.declared.Kind.{Kind}
-use Rattle.service.specs.declared.Kind.the-variants.{Internal, Process, Scripted}
+use Rattle.service.specs.declared.Form.{Form}
+use Rattle.service.specs.declared.Form.the-variants.{Bare, Passing, Direct, Delayed}
 use Rattle.service.specs.declared.Phase.{Phase}
 use Rattle.service.specs.declared.Phase.the-variants.{Down, Ending, Starting, Up, Waiting}
 use Rattle.service.specs.declared.Record.{Record}
@@ -29,7 +29,7 @@ use Rattle.service.specs.declared.Table.{Table}
 use Rattle.service.proofs.States.{Sized, fresh-clock, fresh-record, fresh-sized, sized-with, with-all}
 use Rattle.rules.specs.Calls.{Call, afterCalls, outcome}
 use Rattle.rules.specs.Demand.{AlwaysFormed}
-use Rattle.rules.specs.Events.{afterClock, afterEnd, afterStart, afterStop, afterStopAll, dead, each, endedAs, revivedCause, startReaches, startedAs, stopped}
+use Rattle.rules.specs.Events.{afterClock, afterEnd, afterStart, afterStop, afterStopAll, brings, dead, each, endedAs, revivedCause, startReaches, startedAs, stopped}
 use Rattle.rules.specs.Rules.{begunDeadline, deadlineIn, fits, leaves, lostToUser, nextAction}
 use Rattle.rules.specs.Settling.{countNow, limitReached, settledAs, settledCount, settledNotBefore, settledWindow, windowNow, windowOver}
 use Rattle.rules.specs.WellFormed.{deadlineInRange, formed, settingsInRange, shaped, shapedAt, stateFormed, tableFormed, timesInRange}
@@ -129,10 +129,11 @@ module _ (now : ℕ) (past : now ≤ lastClock) (v : Settings) (g : Ranged v) (r
       go true = refl
       go false = le-leb (now + wait) lastTime (omega arith)
 
-  begun-deadline : (k : Kind) → deadlineInRange (begunDeadline k (deadlineIn now (v .«start_timeout»)) (r .deadline)) ≡ true
-  begun-deadline Process = b .deadline
-  begun-deadline Scripted = set-deadline (v .«start_timeout») (g .starting)
-  begun-deadline Internal = b .deadline
+  begun-deadline : (k : Form) → deadlineInRange (begunDeadline k (deadlineIn now (v .«start_timeout»)) (r .deadline)) ≡ true
+  begun-deadline Bare = b .deadline
+  begun-deadline Passing = set-deadline (v .«start_timeout») (g .starting)
+  begun-deadline Direct = b .deadline
+  begun-deadline Delayed = set-deadline (v .«start_timeout») (g .starting)
 
   expired-deadline : (starting : Bool) → deadlineInRange (pick starting (deadlineIn now (v .«stop_timeout»)) (r .deadline)) ≡ true
   expired-deadline true = set-deadline (v .«stop_timeout») (g .stopping)
@@ -220,7 +221,7 @@ module _ (t : Table) (x : State) (s : ℕ) where
   leaves-timely Begin n g b = record {
     launched = le-refl (x .clock);
     window = b .window;
-    deadline = begun-deadline (x .clock) n (settingsAt t s) g (recordAt x s) b (settingsAt t s .kind);
+    deadline = begun-deadline (x .clock) n (settingsAt t s) g (recordAt x s) b (formOf (settingsAt t s));
     pending = b .pending;
     count = b .count;
   }
@@ -232,26 +233,26 @@ module _ (t : Table) (x : State) (s : ℕ) where
       (expired-deadline (x .clock) n (settingsAt t s) g (recordAt x s) b (isStarting (recordAt x s .phase))) refl refl
 
   pub leaves-shaped : (k : Rule) → shapedAt t x s ≡ true → fits k t x s ≡ true
-      → shaped (settingsAt t s .kind) (leaves k t x s .phase) (leaves k t x s .live) (leaves k t x s .cause) ≡ true
+      → shaped (formOf (settingsAt t s)) (leaves k t x s .phase) (leaves k t x s .live) (leaves k t x s .cause) ≡ true
   unfolding leaves shapedAt
   leaves-shaped Lose o f =
       let m = lose-fits t x s .0 f in
-      lose-shaped (settingsAt t s .kind) (recordAt x s .phase) (recordAt x s .live) (recordAt x s .cause) (lostToUser t x s) o (and-true _ _ .1 (m .on, m .nil))
+      lose-shaped (formOf (settingsAt t s)) (recordAt x s .phase) (recordAt x s .live) (recordAt x s .cause) (lostToUser t x s) o (and-true _ _ .1 (m .on, m .nil))
   leaves-shaped Abandon o f =
-      abandon-shaped (settingsAt t s .kind) (recordAt x s .phase) (recordAt x s .live) (recordAt x s .cause) o (abandon-fits t x s .0 f .waits)
+      abandon-shaped (formOf (settingsAt t s)) (recordAt x s .phase) (recordAt x s .live) (recordAt x s .cause) o (abandon-fits t x s .0 f .waits)
   leaves-shaped Settle o f =
       let m = settle-fits t x s .0 f in
-      settle-shaped (settingsAt t s .kind) (recordAt x s .phase) (recordAt x s .live) (recordAt x s .cause) (settingsAt t s .«has_stop») o (m .up) (m .nothing)
+      settle-shaped (formOf (settingsAt t s)) (recordAt x s .phase) (recordAt x s .live) (recordAt x s .cause) (settingsAt t s .«has_stop») o (m .up) (m .nothing)
   leaves-shaped Wake o f =
-      wake-shaped (settingsAt t s .kind) (recordAt x s .phase) (recordAt x s .live) (recordAt x s .cause) o (wake-fits t x s .0 f .down)
+      wake-shaped (formOf (settingsAt t s)) (recordAt x s .phase) (recordAt x s .live) (recordAt x s .cause) o (wake-fits t x s .0 f .down)
   leaves-shaped Release o f =
       let m = release-fits t x s .0 f in
-      release-shaped (settingsAt t s .kind) (recordAt x s .phase) (recordAt x s .live) (recordAt x s .cause) o (m .on) (m .nil)
+      release-shaped (formOf (settingsAt t s)) (recordAt x s .phase) (recordAt x s .live) (recordAt x s .cause) o (m .on) (m .nil)
   leaves-shaped Begin o f =
-      begin-shaped (settingsAt t s .kind) (recordAt x s .phase) (recordAt x s .live) (recordAt x s .cause) o (begin-fits t x s .0 f .waits)
+      begin-shaped (formOf (settingsAt t s)) (recordAt x s .phase) (recordAt x s .live) (recordAt x s .cause) o (begin-fits t x s .0 f .waits)
   leaves-shaped End o f = not-true _ .1 (end-fits t x s .0 f .caused)
   leaves-shaped Expire o f =
-      expire-shaped (settingsAt t s .kind) (recordAt x s .phase) (recordAt x s .live) (recordAt x s .cause) (not (recordAt x s .killed)) o (expire-fits t x s .0 f .which)
+      expire-shaped (formOf (settingsAt t s)) (recordAt x s .phase) (recordAt x s .live) (recordAt x s .cause) (not (recordAt x s .killed)) o (expire-fits t x s .0 f .which)
 
 -- what every stage of the bound needs: no more services than places, and records of list 24's shapes
 pub record AnyStage (t : Table) (x : State) : Type 0 where
@@ -267,7 +268,7 @@ any-rule t x k s i l f = record {
   shapes =
       unfold shapedAt in
       with-all x s (leaves k t x s) (i .sized) (le-trans l (i .few)) (t .count)
-      (λ j q. shaped (settingsAt t j .kind) (q .phase) (q .live) (q .cause) ≡ true) (λ j jl _. unfold shapedAt in i .shapes j jl)
+      (λ j q. shaped (formOf (settingsAt t j)) (q .phase) (q .live) (q .cause) ≡ true) (λ j jl _. unfold shapedAt in i .shapes j jl)
       (leaves-shaped t x s k (i .shapes s l) f);
 }
 
@@ -278,7 +279,7 @@ module _ (t : Table) (ts : TableSound t) where
   settings-ranged s l = ranged (settingsAt t s) (ts .ranged s l)
 
   sound-with : (x : State) (s : ℕ) (r : Record) → Sound t x → s < t .count → Timely (x .clock) r
-      → shaped (settingsAt t s .kind) (r .phase) (r .live) (r .cause) ≡ true → Sound t (withRecord x s r)
+      → shaped (formOf (settingsAt t s)) (r .phase) (r .live) (r .cause) ≡ true → Sound t (withRecord x s r)
   unfolding shapedAt
   sound-with x s r h l b o = record {
     sized = sized-with x s r (h .sized);
@@ -286,7 +287,7 @@ module _ (t : Table) (ts : TableSound t) where
     times = unfold withRecord in with-all x s r (h .sized) (le-trans l (ts .few)) (t .count) (λ i q. Timely (x .clock) q) (λ i il _. h .times i il) b;
     shapes =
         with-all x s r (h .sized) (le-trans l (ts .few)) (t .count)
-        (λ i q. shaped (settingsAt t i .kind) (q .phase) (q .live) (q .cause) ≡ true) (λ i il _. h .shapes i il) o;
+        (λ i q. shaped (formOf (settingsAt t i)) (q .phase) (q .live) (q .cause) ≡ true) (λ i il _. h .shapes i il) o;
   }
 
   pub sound-rule : (x : State) (k : Rule) (s : ℕ) → Sound t x → s < t .count → fits k t x s ≡ true → Sound t (withRecord x s (leaves k t x s))
@@ -299,7 +300,7 @@ module _ (t : Table) (ts : TableSound t) where
   sound-next x h = next-keeps t x (Sound t) h (λ k s l f. sound-rule x k s h l f)
 
   sound-each : (x : State) (f : ℕ → Record → Record) → ((e : ℕ) (r : Record) → Timely (x .clock) r → Timely (x .clock) (f e r))
-      → ((e : ℕ) (r : Record) → shaped (settingsAt t e .kind) (r .phase) (r .live) (r .cause) ≡ true → shaped (settingsAt t e .kind) (f e r .phase) (f e r .live) (f e r .cause) ≡ true)
+      → ((e : ℕ) (r : Record) → shaped (formOf (settingsAt t e)) (r .phase) (r .live) (r .cause) ≡ true → shaped (formOf (settingsAt t e)) (f e r .phase) (f e r .live) (f e r .cause) ≡ true)
       → Sound t x → Sound t (each f x (t .count))
   unfolding shapedAt
   sound-each x f k o h = record {
@@ -322,9 +323,9 @@ module _ (t : Table) (ts : TableSound t) where
       pends true n l = omega arith
       pends false n l = l
 
-      revives : (a : Bool) (e : ℕ) (r : Record) → shaped (settingsAt t e .kind) (r .phase) (r .live) (r .cause) ≡ true
-          → shaped (settingsAt t e .kind) (r .phase) (r .live) (pick a (revivedCause (r .cause)) (r .cause)) ≡ true
-      revives true e r o = start-shaped (settingsAt t e .kind) (r .phase) (r .live) (r .cause) o
+      revives : (a : Bool) (e : ℕ) (r : Record) → shaped (formOf (settingsAt t e)) (r .phase) (r .live) (r .cause) ≡ true
+          → shaped (formOf (settingsAt t e)) (r .phase) (r .live) (pick a (revivedCause (r .cause)) (r .cause)) ≡ true
+      revives true e r o = start-shaped (formOf (settingsAt t e)) (r .phase) (r .live) (r .cause) o
       revives false e r o = o
 
   pub sound-stop : (x : State) (s : ℕ) → s < t .count → Sound t x → Sound t (afterStop x s)
@@ -333,19 +334,19 @@ module _ (t : Table) (ts : TableSound t) where
       let b = h .times s l in
       sound-with x s _ h l
       record { launched = b .launched; window = b .window; deadline = b .deadline; pending = b .pending; count = b .count }
-      (stop-shaped (settingsAt t s .kind) (recordAt x s .phase) (recordAt x s .live) (recordAt x s .cause) (unfold shapedAt in h .shapes s l))
+      (stop-shaped (formOf (settingsAt t s)) (recordAt x s .phase) (recordAt x s .live) (recordAt x s .cause) (unfold shapedAt in h .shapes s l))
 
   pub sound-stop-all : (x : State) → Sound t x → Sound t (afterStopAll t x)
   unfolding afterStopAll
   sound-stop-all x h =
       sound-each x (λ d r. stopped r)
       (λ e r b. record { launched = b .launched; window = b .window; deadline = b .deadline; pending = b .pending; count = b .count })
-      (λ e r o. stop-shaped (settingsAt t e .kind) (r .phase) (r .live) (r .cause) o)
+      (λ e r o. stop-shaped (formOf (settingsAt t e)) (r .phase) (r .live) (r .cause) o)
       h
 
   pub sound-end : (x : State) (s : ℕ) (good : Bool) → s < t .count → Sound t x → Sound t (afterEnd t x s good)
   unfolding afterEnd endedAs shapedAt
-  sound-end x s good l h = go (recordAt x s .phase) refl good
+  sound-end x s good l h = go (recordAt x s .phase) refl (brings (settingsAt t s) good) (λ e. and-true good (isPassing (formOf (settingsAt t s))) .0 e .1)
     where
       b : Timely (x .clock) (recordAt x s)
       b = h .times s l
@@ -355,18 +356,18 @@ module _ (t : Table) (ts : TableSound t) where
 
       as′ : (q : Record) → q .«last_launch» ≡ recordAt x s .«last_launch» → q .«window_start» ≡ recordAt x s .«window_start» → deadlineInRange (q .deadline) ≡ true
           → q .«not_before» ≡ recordAt x s .«not_before» → q .restarts ≡ recordAt x s .restarts
-          → shaped (settingsAt t s .kind) (q .phase) (q .live) (q .cause) ≡ true → Sound t (withRecord x s q)
+          → shaped (formOf (settingsAt t s)) (q .phase) (q .live) (q .cause) ≡ true → Sound t (withRecord x s q)
       as′ q a c d e f o =
           sound-with x s q h l (timely-as (x .clock) (h .clock) (settingsAt t s) (settings-ranged s l) (recordAt x s) b q a c d e f) o
 
-      go : (p : Phase) → recordAt x s .phase ≡ p → (g : Bool) → Sound t (withRecord x s (endedAs p (settingsAt t s) (x .clock) g (recordAt x s)))
-      go Down e g = as′ _ refl refl (b .deadline) refl refl (dead-shaped (settingsAt t s .kind) (recordAt x s .phase) (recordAt x s .live) (recordAt x s .cause) (h .shapes s l) (rw e))
-      go Waiting e g = as′ _ refl refl (b .deadline) refl refl (dead-shaped (settingsAt t s .kind) (recordAt x s .phase) (recordAt x s .live) (recordAt x s .cause) (h .shapes s l) (rw e))
-      go Starting e true = as′ _ refl refl refl refl refl (started-shaped (settingsAt t s .kind) (recordAt x s .phase) (recordAt x s .live) (recordAt x s .cause) (h .shapes s l) (rw e))
-      go Starting e false =
+      go : (p : Phase) → recordAt x s .phase ≡ p → (g : Bool) → (g ≡ true → isPassing (formOf (settingsAt t s)) ≡ true) → Sound t (withRecord x s (endedAs p (settingsAt t s) (x .clock) g (recordAt x s)))
+      go Down e g i = as′ _ refl refl (b .deadline) refl refl (dead-shaped (formOf (settingsAt t s)) (recordAt x s .phase) (recordAt x s .live) (recordAt x s .cause) (h .shapes s l) (rw e))
+      go Waiting e g i = as′ _ refl refl (b .deadline) refl refl (dead-shaped (formOf (settingsAt t s)) (recordAt x s .phase) (recordAt x s .live) (recordAt x s .cause) (h .shapes s l) (rw e))
+      go Starting e true i = as′ _ refl refl refl refl refl (started-shaped (formOf (settingsAt t s)) (recordAt x s .phase) (recordAt x s .live) (recordAt x s .cause) (h .shapes s l) (rw e) (i refl))
+      go Starting e false i =
           sound-with x s _ h l (settled-timely (x .clock) (h .clock) (settingsAt t s) (settings-ranged s l) (dead (recordAt x s)) gone User) refl
-      go Up e g = as′ _ refl refl (b .deadline) refl refl (fell-shaped (settingsAt t s .kind) (recordAt x s .phase) (recordAt x s .live) (recordAt x s .cause) (h .shapes s l) (rw e))
-      go Ending e g =
+      go Up e g i = as′ _ refl refl (b .deadline) refl refl (fell-shaped (formOf (settingsAt t s)) (recordAt x s .phase) (recordAt x s .live) (recordAt x s .cause) (h .shapes s l) (rw e))
+      go Ending e g i =
           sound-with x s _ h l (settled-timely (x .clock) (h .clock) (settingsAt t s) (settings-ranged s l) (dead (recordAt x s)) gone (recordAt x s .cause)) refl
 
   pub sound-clock : (x : State) (n : ℕ) → x .clock ≤ n → n ≤ lastClock → Sound t x → Sound t (afterClock x n)

@@ -22,7 +22,7 @@ use Rattle.service.proofs.Named.{is-ending, is-up, is-user}
 use Rattle.service.proofs.States.{Sized, sized-with, with-all}
 use Rattle.rules.specs.Calls.{Call, outcome}
 use Rattle.rules.specs.Demand.{accepted, isStart}
-use Rattle.rules.specs.Events.{afterClock, afterEnd, afterStop, afterStopAll, endedAs, stopped, stoppedPhase}
+use Rattle.rules.specs.Events.{afterClock, afterEnd, afterStop, afterStopAll, brings, endedAs, stopped, stoppedPhase}
 use Rattle.rules.specs.Rules.{fits, leaves}
 use Rattle.rules.specs.declared.Rule.{Rule}
 use Rattle.rules.specs.declared.Rule.the-variants.{Abandon, Begin, End, Expire, Lose, Release, Settle, Wake}
@@ -266,7 +266,7 @@ module _ (t : Table) (few : t .count ≤ maxServices) where
             λ s l. unfold afterStop in since-with x₀ x s _ h l (stop-halting (recordAt x s .phase) (recordAt x s .aside) (recordAt x s .cause)) (stop-goes (recordAt x s));
         stopsAll = since-all x₀ x h;
         ends =
-            λ s good l _. unfold afterEnd in let k = ended-halting x s (h .halting s l) good (recordAt x s .phase) refl in since-with x₀ x s _ h l (k .0) (k .1);
+            λ s good l _. unfold afterEnd in let k = ended-halting x s (h .halting s l) (brings (settingsAt t s) good) (recordAt x s .phase) refl in since-with x₀ x s _ h l (k .0) (k .1);
         clocks = λ n l _. unfold afterClock in unfold recordAt in record { sized = h .sized; halting = h .halting; clocks = le-trans (h .clocks) l; goes = h .goes };
         acts =
             λ y p. next-keeps t y (Since t x₀) p (λ k s l f. let q = leaves-halting y s (p .halting s l) k f in since-with x₀ y s _ p l (q .0) (q .1));

@@ -19,7 +19,7 @@ use Rattle.service.specs.declared.Table.{Table}
 use Rattle.service.proofs.Named.{is-down, is-waiting}
 use Rattle.service.proofs.States.{Sized, fresh-record}
 use Rattle.rules.specs.Dependencies.{blocked, hard}
-use Rattle.rules.specs.Events.{afterClock, afterEnd, afterStart, afterStop, afterStopAll, each, endedAs}
+use Rattle.rules.specs.Events.{afterClock, afterEnd, afterStart, afterStop, afterStopAll, brings, each, endedAs}
 use Rattle.rules.specs.Rules.{fits, leaves}
 use Rattle.rules.specs.declared.Rule.{Rule}
 use Rattle.rules.specs.declared.Rule.the-variants.{Abandon, Begin, End, Expire, Lose, Release, Settle, Wake}
@@ -86,7 +86,7 @@ module _ (t : Table) (x : State) (s : ℕ) (z : Sized x) (l : s < maxServices) (
 
   held-end : (good : Bool) → Held t (afterEnd t x s good)
   unfolding afterEnd endedAs
-  held-end good = go (recordAt x s .phase) refl good
+  held-end good = go (recordAt x s .phase) refl (brings (settingsAt t s) good)
     where
       go : (p : Phase) → recordAt x s .phase ≡ p → (g : Bool) → Held t (withRecord x s (endedAs p (settingsAt t s) (x .clock) g (recordAt x s)))
       go Down e g = held-with _ (λ a. inl a) (λ u. inl u)

@@ -11,17 +11,17 @@ use Rattle.base.specs.Folds.{implies, pick}
 use Rattle.base.proofs.Tests.{and-true, either, imp-true, no-ft, not-both, not-true}
 use Rattle.service.specs.Limits.{maxServices}
 use Rattle.service.specs.Records.{active, isDown, isEnding, isNone, isStarting, isUp, isWaiting, recordAt, withRecord}
-use Rattle.service.specs.Settings.{isScripted, settingsAt}
+use Rattle.service.specs.Settings.{formOf, settingsAt, startsFirst}
 use Rattle.service.specs.declared.Deadline.{Deadline}
 use Rattle.service.specs.declared.Deadline.the-variants.{At, None as NoDeadline}
-use Rattle.service.specs.declared.Kind.{Kind}
-use Rattle.service.specs.declared.Kind.the-variants.{Internal, Process, Scripted}
+use Rattle.service.specs.declared.Form.{Form}
+use Rattle.service.specs.declared.Form.the-variants.{Bare, Passing, Direct, Delayed}
 use Rattle.service.specs.declared.Phase.{Phase}
 use Rattle.service.specs.declared.Phase.the-variants.{Ending}
 use Rattle.service.specs.declared.Record.{Record}
 use Rattle.service.specs.declared.State.{State}
 use Rattle.service.specs.declared.Table.{Table}
-use Rattle.service.proofs.Finite.{bools, finite, given, kinds, phases}
+use Rattle.service.proofs.Finite.{bools, finite, given, forms, phases}
 use Rattle.service.proofs.Named.{is-up, is-waiting}
 use Rattle.rules.specs.Dependencies.{serving}
 use Rattle.rules.specs.Rules.{begunDeadline, begunPhase, deadlineIn, due, expired, fits, leaves, running}
@@ -52,16 +52,17 @@ drops : (now : ℕ) (r′ r : Record) → heavyAt now r′ ≡ false → heavyAt
 unfolding weighLast
 drops now r′ r e f = rw (e, f) (lit< tt)
 
-pub scripted-deadline : (k : Kind) (a b : Deadline) → isScripted k ≡ true → begunDeadline k a b ≡ a
-scripted-deadline Process a b e = no-ft e
-scripted-deadline Scripted a b e = refl
-scripted-deadline Internal a b e = no-ft e
+pub starting-deadline : (k : Form) (a b : Deadline) → startsFirst k ≡ true → begunDeadline k a b ≡ a
+starting-deadline Bare a b e = no-ft e
+starting-deadline Passing a b e = refl
+starting-deadline Direct a b e = no-ft e
+starting-deadline Delayed a b e = refl
 
-test-launched : kinds (λ k. bools (λ n. bools (λ d. bools (λ z. given n (given (implies (isScripted k) (not d)) (not (heavy (begunPhase k) n d z))))))) ≡ true
-unfolding kinds bools given
+test-launched : forms (λ k. bools (λ n. bools (λ d. bools (λ z. given n (given (implies (startsFirst k) (not d)) (not (heavy (begunPhase k) n d z))))))) ≡ true
+unfolding forms bools given
 test-launched = refl
 
-launched-light : (k : Kind) (n d z : Bool) → n ≡ true → implies (isScripted k) (not d) ≡ true → not (heavy (begunPhase k) n d z) ≡ true
+launched-light : (k : Form) (n d z : Bool) → n ≡ true → implies (startsFirst k) (not d) ≡ true → not (heavy (begunPhase k) n d z) ≡ true
 launched-light = simp finite at test-launched
 
 test-killed : bools (λ n. bools (λ d. not (heavy Ending n d true))) ≡ true
@@ -100,11 +101,11 @@ module _ (t : Table) (x : State) (s : ℕ) (i : LastStage t x) (sl : s < t .coun
   unfolding leaves shapedAt
   begin-change f =
       let m = begin-fits t x s .0 f in
-      let nil : isNone (recordAt x s .cause) ≡ true = waiting-uncaused (settingsAt t s .kind) (recordAt x s .phase) (recordAt x s .live) (recordAt x s .cause) (i .any .shapes s sl) (m .waits) in
+      let nil : isNone (recordAt x s .cause) ≡ true = waiting-uncaused (formOf (settingsAt t s)) (recordAt x s .phase) (recordAt x s .live) (recordAt x s .cause) (i .any .shapes s sl) (m .waits) in
       record {
-        woken = not-true _ .0 (begin-not-down (settingsAt t s .kind));
-        busy = not-true _ .0 (begin-not-waiting (settingsAt t s .kind));
-        acts = λ _. begin-active (settingsAt t s .kind);
+        woken = not-true _ .0 (begin-not-down (formOf (settingsAt t s)));
+        busy = not-true _ .0 (begin-not-waiting (formOf (settingsAt t s)));
+        acts = λ _. begin-active (formOf (settingsAt t s));
         wants = refl;
         unclosed = λ _. nil;
         clean =
@@ -143,7 +144,7 @@ module _ (t : Table) (x : State) (s : ℕ) (i : LastStage t x) (sl : s < t .coun
   expire-change f =
       let m = expire-fits t x s .0 f in
       ending-change _ refl
-      (not-true _ .0 (ending-caused (settingsAt t s .kind) Ending (leaves Expire t x s .live) (leaves Expire t x s .cause) (leaves-shaped t x s Expire (i .any .shapes s sl) f) refl))
+      (not-true _ .0 (ending-caused (formOf (settingsAt t s)) Ending (leaves Expire t x s .live) (leaves Expire t x s .cause) (leaves-shaped t x s Expire (i .any .shapes s sl) f) refl))
       refl
       (rw (not-true (isUp (recordAt x s .phase)) .0 (expire-not-up (recordAt x s .phase) (not (recordAt x s .killed)) (m .which))))
 
@@ -162,15 +163,15 @@ module _ (t : Table) (x : State) (s : ℕ) (i : LastStage t x) (sl : s < t .coun
       (recordAt x s)
       (not-true _ .0
       (launched-light
-      (settingsAt t s .kind)
+      (formOf (settingsAt t s))
       (isNone (recordAt x s .cause))
       (due (x .clock) (leaves Begin t x s .deadline))
       (recordAt x s .killed)
-      (waiting-uncaused (settingsAt t s .kind) (recordAt x s .phase) (recordAt x s .live) (recordAt x s .cause) (i .any .shapes s sl) (m .waits))
+      (waiting-uncaused (formOf (settingsAt t s)) (recordAt x s .phase) (recordAt x s .live) (recordAt x s .cause) (i .any .shapes s sl) (m .waits))
       (imp-true _ _ .1
       (λ k.
       not-true _ .1
-      (ap (due (x .clock)) (scripted-deadline (settingsAt t s .kind) (deadlineIn (x .clock) (settingsAt t s .«start_timeout»)) (recordAt x s .deadline) k)
+      (ap (due (x .clock)) (starting-deadline (formOf (settingsAt t s)) (deadlineIn (x .clock) (settingsAt t s .«start_timeout»)) (recordAt x s .deadline) k)
       ∙ not-due (x .clock) (settingsAt t s .«start_timeout»))))))
       (rw (is-waiting (recordAt x s .phase) (m .waits)))
 

@@ -11,11 +11,11 @@ use Rattle.base.specs.Folds.{pick}
 use Rattle.base.specs.Links.{Path, link, on}
 use Rattle.base.proofs.Tests.{either, no-ft, not-both, not-true, refute}
 use Rattle.service.specs.Records.{active, isStarting, isUp, recordAt, withRecord}
-use Rattle.service.specs.Settings.{isScripted, settingsAt}
+use Rattle.service.specs.Settings.{formOf, settingsAt, isPassing}
 use Rattle.service.specs.declared.Action.{Action}
 use Rattle.service.specs.declared.Action.the-variants.{Launch, Moved, Quiet, Signal, StopCommand}
-use Rattle.service.specs.declared.Kind.{Kind}
-use Rattle.service.specs.declared.Kind.the-variants.{Internal, Process, Scripted}
+use Rattle.service.specs.declared.Form.{Form}
+use Rattle.service.specs.declared.Form.the-variants.{Bare, Passing, Direct, Delayed}
 use Rattle.service.specs.declared.Signal.{Signal as SignalName}
 use Rattle.service.specs.declared.Signal.the-variants.{Hup, Int, Kill, None as NoSignal, Quit, Term, Usr1, Usr2}
 use Rattle.service.specs.declared.State.{State}
@@ -53,15 +53,17 @@ without-out s v = rw (eq-eqb s s refl)
 pub without-others : (s e : ℕ) (v : Set) → e ≢ s → without s v e ≡ v e
 without-others s e v q = rw (ne-eqb e s q)
 
-begun-in : (k : Kind) (v : Set) (s : ℕ) (b l : Bool) → v s ≡ l → recorded (handed (begunAction k s) b) v s ≡ begunLive k l
-begun-in Process v s b l h = with-in s v
-begun-in Scripted v s b l h = with-in s v
-begun-in Internal v s b l h = h
+begun-in : (k : Form) (v : Set) (s : ℕ) (b l : Bool) → v s ≡ l → recorded (handed (begunAction k s) b) v s ≡ begunLive k l
+begun-in Bare v s b l h = h
+begun-in Passing v s b l h = with-in s v
+begun-in Direct v s b l h = with-in s v
+begun-in Delayed v s b l h = with-in s v
 
-begun-on : (k : Kind) (s i : ℕ) → ActsOn (begunAction k s) i → s ≡ i
-begun-on Process s i q = q
-begun-on Scripted s i q = q
-begun-on Internal s i q = absurd q
+begun-on : (k : Form) (s i : ℕ) → ActsOn (begunAction k s) i → s ≡ i
+begun-on Bare s i q = absurd q
+begun-on Passing s i q = q
+begun-on Direct s i q = q
+begun-on Delayed s i q = q
 
 -- a signal, or none, leaves the record
 term-leaves : (g : SignalName) (s : ℕ) (b : Bool) (v : Set) → recorded (handed (termAction g s) b) v ≡ v
@@ -84,15 +86,17 @@ term-on Usr1 s i q = q
 term-on Usr2 s i q = q
 term-on Kill s i q = q
 
-end-in : (k : Kind) (g : SignalName) (v : Set) (s : ℕ) (b : Bool) → (isScripted k ≡ false → v s ≡ true) → recorded (handed (endAction k g s) b) v s ≡ true
-end-in Process g v s b h = rw (term-leaves g s b v) (h refl)
-end-in Scripted g v s b h = with-in s v
-end-in Internal g v s b h = h refl
+end-in : (k : Form) (g : SignalName) (v : Set) (s : ℕ) (b : Bool) → (isPassing k ≡ false → v s ≡ true) → recorded (handed (endAction k g s) b) v s ≡ true
+end-in Bare g v s b h = h refl
+end-in Passing g v s b h = with-in s v
+end-in Direct g v s b h = rw (term-leaves g s b v) (h refl)
+end-in Delayed g v s b h = rw (term-leaves g s b v) (h refl)
 
-end-on : (k : Kind) (g : SignalName) (s i : ℕ) → ActsOn (endAction k g s) i → s ≡ i
-end-on Process g s i q = term-on g s i q
-end-on Scripted g s i q = q
-end-on Internal g s i q = absurd q
+end-on : (k : Form) (g : SignalName) (s i : ℕ) → ActsOn (endAction k g s) i → s ≡ i
+end-on Bare g s i q = absurd q
+end-on Passing g s i q = q
+end-on Direct g s i q = term-on g s i q
+end-on Delayed g s i q = term-on g s i q
 
 expired-leaves : (a : Bool) (s : ℕ) (b : Bool) (v : Set) → recorded (handed (pick a (Signal s Int) (Signal s Kill)) b) v ≡ v
 expired-leaves true s b v = refl
@@ -110,8 +114,8 @@ hands-on Abandon t x s i q = absurd q
 hands-on Settle t x s i q = absurd q
 hands-on Wake t x s i q = absurd q
 hands-on Release t x s i q = absurd q
-hands-on Begin t x s i q = begun-on (settingsAt t s .kind) s i q
-hands-on End t x s i q = end-on (settingsAt t s .kind) (settingsAt t s .signal) s i q
+hands-on Begin t x s i q = begun-on (formOf (settingsAt t s)) s i q
+hands-on End t x s i q = end-on (formOf (settingsAt t s)) (settingsAt t s .signal) s i q
 hands-on Expire t x s i q = expired-on (isStarting (recordAt x s .phase)) s i q
 
 -- an action leaves those in the record whom it does not act on
@@ -140,7 +144,7 @@ module _ (t : Table) (ts : TableSound t) (v : Set) (x : State) (g : Good t ts v 
   absent e el h =
       g .same e el
       ∙ not-true (recordAt x e .live) .0
-      (inactive-dead (settingsAt t e .kind) (recordAt x e .phase) (recordAt x e .live) (recordAt x e .cause) (g .kept .sound .shapes e el)
+      (inactive-dead (formOf (settingsAt t e)) (recordAt x e .phase) (recordAt x e .live) (recordAt x e .cause) (g .kept .sound .shapes e el)
       (not-true (active (recordAt x e .phase)) .1 (refute (active (recordAt x e .phase)) h)))
 
   module _ (s : ℕ) (l : s < t .count) where
@@ -173,7 +177,7 @@ module _ (t : Table) (ts : TableSound t) (v : Set) (x : State) (g : Good t ts v 
         (hands Expire t x s) b (hands-on Expire t x s)
 
     -- what rule 7 ends is not what rule 3 settles, which comes first
-    busy : fits End t x s ≡ true → Before t x (place End) → nothingToEnd (settingsAt t s .kind) (settingsAt t s .«has_stop») (recordAt x s .live) ≡ false
+    busy : fits End t x s ≡ true → Before t x (place End) → nothingToEnd (formOf (settingsAt t s)) (settingsAt t s .«has_stop») (recordAt x s .live) ≡ false
     busy f b =
         let m = end-fits t x s .0 f in
         refute _
@@ -187,13 +191,13 @@ module _ (t : Table) (ts : TableSound t) (v : Set) (x : State) (g : Good t ts v 
     rule-same Settle b f n = g .same s l
     rule-same Wake b f n = g .same s l
     rule-same Release b f n = g .same s l
-    rule-same Begin b f n = begun-in (settingsAt t s .kind) v s b (recordAt x s .live) (g .same s l)
+    rule-same Begin b f n = begun-in (formOf (settingsAt t s)) v s b (recordAt x s .live) (g .same s l)
     rule-same End b f n =
         let m = end-fits t x s .0 f in
-        end-in (settingsAt t s .kind) (settingsAt t s .signal) v s b
+        end-in (formOf (settingsAt t s)) (settingsAt t s .signal) v s b
         (λ q.
         g .same s l
-        ∙ end-lives (settingsAt t s .kind) (recordAt x s .phase) (recordAt x s .live) (recordAt x s .cause) (settingsAt t s .«has_stop»)
+        ∙ end-lives (formOf (settingsAt t s)) (recordAt x s .phase) (recordAt x s .live) (recordAt x s .cause) (settingsAt t s .«has_stop»)
         (g .kept .sound .shapes s l) (m .up) (not-true _ .1 (busy f n)) (not-true _ .1 q))
     rule-same Expire b f n = rw (expired-leaves (isStarting (recordAt x s .phase)) s b v) (g .same s l)
 

@@ -13,11 +13,11 @@ use Rattle.base.proofs.Below.{Sought, found, nowhere, sought}
 use Rattle.base.proofs.Tests.{and-true, either, no-tf, not-both, not-true}
 use Rattle.service.specs.Numbers.{isQuiet}
 use Rattle.service.specs.Records.{freshState, isStarting, recordAt}
-use Rattle.service.specs.Settings.{settingsAt}
+use Rattle.service.specs.Settings.{formOf, settingsAt}
 use Rattle.service.specs.declared.Action.{Action}
 use Rattle.service.specs.declared.Action.the-variants.{Launch, Moved, Quiet, Signal, StopCommand}
-use Rattle.service.specs.declared.Kind.{Kind}
-use Rattle.service.specs.declared.Kind.the-variants.{Internal, Process, Scripted}
+use Rattle.service.specs.declared.Form.{Form}
+use Rattle.service.specs.declared.Form.the-variants.{Bare, Passing, Direct, Delayed}
 use Rattle.service.specs.declared.Signal.{Signal as SignalName}
 use Rattle.service.specs.declared.Signal.the-variants.{Hup, Int, Kill, None as NoSignal, Quit, Term, Usr1, Usr2}
 use Rattle.service.specs.declared.State.{State}
@@ -39,10 +39,11 @@ use Rattle.rules.proofs.Stages.{ends-within}
 
 -- ---- a quiet answer
 
-begun-loud : (k : Kind) (s : ℕ) → isQuiet (begunAction k s) ≡ false
-begun-loud Process s = refl
-begun-loud Scripted s = refl
-begun-loud Internal s = refl
+begun-loud : (k : Form) (s : ℕ) → isQuiet (begunAction k s) ≡ false
+begun-loud Bare s = refl
+begun-loud Passing s = refl
+begun-loud Direct s = refl
+begun-loud Delayed s = refl
 
 term-loud : (g : SignalName) (s : ℕ) → isQuiet (termAction g s) ≡ false
 term-loud NoSignal s = refl
@@ -54,10 +55,11 @@ term-loud Usr1 s = refl
 term-loud Usr2 s = refl
 term-loud Kill s = refl
 
-end-loud : (k : Kind) (g : SignalName) (s : ℕ) → isQuiet (endAction k g s) ≡ false
-end-loud Process g s = term-loud g s
-end-loud Scripted g s = refl
-end-loud Internal g s = refl
+end-loud : (k : Form) (g : SignalName) (s : ℕ) → isQuiet (endAction k g s) ≡ false
+end-loud Bare g s = refl
+end-loud Passing g s = refl
+end-loud Direct g s = term-loud g s
+end-loud Delayed g s = term-loud g s
 
 expired-loud : (b : Bool) (s : ℕ) → isQuiet (pick b (Signal s Int) (Signal s Kill)) ≡ false
 expired-loud true s = refl
@@ -71,8 +73,8 @@ loud Abandon t x s = refl
 loud Settle t x s = refl
 loud Wake t x s = refl
 loud Release t x s = refl
-loud Begin t x s = begun-loud (settingsAt t s .kind) s
-loud End t x s = end-loud (settingsAt t s .kind) (settingsAt t s .signal) s
+loud Begin t x s = begun-loud (formOf (settingsAt t s)) s
+loud End t x s = end-loud (formOf (settingsAt t s)) (settingsAt t s .signal) s
 loud Expire t x s = expired-loud (isStarting (recordAt x s .phase)) s
 
 -- so where the next action is quiet no rule fits, and the state stays

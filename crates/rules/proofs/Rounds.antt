@@ -16,7 +16,7 @@ use Rattle.base.proofs.Sums.{sum-bound, sum-le, sum-lt, sum-term}
 use Rattle.base.proofs.Tests.{either, no-ft, not-both, not-false, not-true, or-not, refute, tests}
 use Rattle.service.specs.Numbers.{isQuiet}
 use Rattle.service.specs.Records.{active, isDown, isEnding, isStarting, isUp, isUser, recordAt}
-use Rattle.service.specs.Settings.{settingsAt}
+use Rattle.service.specs.Settings.{formOf, settingsAt}
 use Rattle.service.specs.declared.Action.the-variants.{Quiet}
 use Rattle.service.specs.declared.Deadline.the-variants.{At}
 use Rattle.service.specs.declared.Phase.{Phase}
@@ -30,7 +30,7 @@ use Rattle.service.proofs.States.{Sized, with-same}
 use Rattle.rules.specs.Calls.{Answer, Call, Outcome, acted, clock, done, end, next, outcome, ran, refused, run, told}
 use Rattle.rules.specs.Demand.{Clear, NoZeroTimeout, Now, Reported, Rests, Round, Rounds, Stretch, ToQuiet, accepted, another, by-run, call, empty, freshNow, here, isRefused, isStart, no-rounds, nowAfter, recorded, round, sent, singly, there}
 use Rattle.rules.specs.Dependencies.{blocked, hard, hardLinks}
-use Rattle.rules.specs.Events.{afterClock, afterEnd, endedAs}
+use Rattle.rules.specs.Events.{afterClock, afterEnd, brings, endedAs}
 use Rattle.rules.specs.Rules.{Step, due}
 use Rattle.rules.specs.Runs.{actionAfter, stateAfter, stepsToQuiet}
 use Rattle.rules.specs.WellFormed.{shapedAt, tableFormed}
@@ -247,15 +247,15 @@ module _ (t : Table) (tf : tableFormed t ≡ true) (ts : TableSound t) (nz : NoZ
   end-down : (x : State) (s : ℕ) (good : Bool) → s < t .count → Sized x → isEnding (recordAt x s .phase) ≡ true → isDown (recordAt (afterEnd t x s good) s .phase) ≡ true
   unfolding afterEnd endedAs
   end-down x s good l z e =
-      rw (with-same x s (endedAs (recordAt x s .phase) (settingsAt t s) (x .clock) good (recordAt x s)) z (le-trans l (ts .few))) (go (recordAt x s .phase) (is-ending (recordAt x s .phase) e))
+      rw (with-same x s (endedAs (recordAt x s .phase) (settingsAt t s) (x .clock) (brings (settingsAt t s) good) (recordAt x s)) z (le-trans l (ts .few))) (go (recordAt x s .phase) (is-ending (recordAt x s .phase) e))
     where
-      go : (p : Phase) → p ≡ Ending → isDown (endedAs p (settingsAt t s) (x .clock) good (recordAt x s) .phase) ≡ true
+      go : (p : Phase) → p ≡ Ending → isDown (endedAs p (settingsAt t s) (x .clock) (brings (settingsAt t s) good) (recordAt x s) .phase) ≡ true
       go p q = rw q
 
   down-not-live : {x₀ : State} {n : Now} (s : ℕ) → s < t .count → HaltingSince x₀ n → isDown (recordAt (n .state) s .phase) ≡ true → recordAt (n .state) s .live ≡ false
   unfolding shapedAt
   down-not-live {n = n} s l f d =
-      not-true _ .0 (down-dead (settingsAt t s .kind) (recordAt (n .state) s .phase) (recordAt (n .state) s .live) (recordAt (n .state) s .cause) (shapes f s l) d)
+      not-true _ .0 (down-dead (formOf (settingsAt t s)) (recordAt (n .state) s .phase) (recordAt (n .state) s .live) (recordAt (n .state) s .cause) (shapes f s l) d)
 
   -- an end that is reported takes its service down, if it was ending
   reported-down : (s : ℕ) → s < t .count → {n n′ : Now} {cs : List Call} → Reported t s n cs → Stretch t n cs n′ → HaltingSince (n .state) n
@@ -280,7 +280,7 @@ module _ (t : Table) (tf : tableFormed t ≡ true) (ts : TableSound t) (nz : NoZ
   unfolding shapedAt
   ending-recorded {n = n} f s l e =
       f .reached .good .same s l
-      ∙ ending-lives (settingsAt t s .kind) (recordAt (n .state) s .phase) (recordAt (n .state) s .live) (recordAt (n .state) s .cause) (shapes f s l) e
+      ∙ ending-lives (formOf (settingsAt t s)) (recordAt (n .state) s .phase) (recordAt (n .state) s .live) (recordAt (n .state) s .cause) (shapes f s l) e
 
   -- past its deadline in a quiet state, a service is not starting, and one that is ending has been killed
   module _ (x : State) (q : Stays t x) (s : ℕ) (l : s < t .count) (e : ℕ) (at-e : recordAt x s .deadline ≡ At e) (past : e ≤ x .clock) where

@@ -11,7 +11,7 @@ use Rattle.base.specs.Folds.{listed}
 use Rattle.base.proofs.Below.{Sought, found, nowhere, sought}
 use Rattle.base.proofs.Lists.{listed-as}
 use Rattle.base.proofs.Tests.{either, no-tf}
-use Rattle.service.specs.Numbers.{actionNumber, actionOf, actionService, isQuiet, signalAt, signalPlace}
+use Rattle.service.specs.Numbers.{actionNumber, actionOf, actionService, isQuiet, signalAt, signalNumber}
 use Rattle.service.specs.declared.Action.{Action}
 use Rattle.service.specs.declared.Action.the-variants.{Launch, Moved, Quiet, Signal, StopCommand}
 use Rattle.service.specs.declared.Signal.{Signal as SignalName}
@@ -57,7 +57,7 @@ steps-loud t x i l = go (sought (λ k. isQuiet (actionAfter t x k)) (4 * t .coun
     go (found h) m = h .first i m
     go (nowhere h) m = h i m
 
-signal-back : (g : SignalName) → signalAt (signalPlace g) ≡ g
+signal-back : (g : SignalName) → signalAt (signalNumber g) ≡ g
 signal-back NoSignal = refl
 signal-back Hup = refl
 signal-back Int = refl
@@ -76,7 +76,7 @@ action-back Quiet e = no-tf e
 action-back (Moved s) e = refl
 action-back (Launch s) e = refl
 action-back (StopCommand s) e = refl
-action-back (Signal s g) e = three-more s (signalPlace g) ∙ ap (λ (h : SignalName). Signal s h) (signal-back g)
+action-back (Signal s g) e = three-more s (signalNumber g) ∙ ap (λ (h : SignalName). Signal s h) (signal-back g)
 
 written-length : (f : ℕ → ℕ) (l : List ℕ) (n : ℕ) → length (written f l n) ≡ length l
 unfolding written

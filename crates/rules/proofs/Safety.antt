@@ -16,7 +16,7 @@ use Rattle.service.specs.declared.Table.{Table}
 use Rattle.service.proofs.States.{Sized, fresh-record, same, with-all}
 use Rattle.rules.specs.Calls.{Call}
 use Rattle.rules.specs.Demand.{Clear, Mark, Safe, Set, deadlineKill, nobody, recorded, story, without}
-use Rattle.rules.specs.Events.{afterClock, afterEnd, afterStart, afterStop, afterStopAll, each, endedAs}
+use Rattle.rules.specs.Events.{afterClock, afterEnd, afterStart, afterStop, afterStopAll, brings, each, endedAs}
 use Rattle.rules.specs.WellFormed.{tableFormed}
 use Rattle.rules.proofs.Each.{each-below}
 use Rattle.rules.proofs.Fed.{Each, Feeds, story-leads}
@@ -49,7 +49,7 @@ module _ (t : Table) (ts : TableSound t) where
     same =
         unfold afterEnd in
         with-all x s _ (g .kept .sound .sized) (le-trans l (ts .few)) (t .count) (λ e r. without s v e ≡ r .live)
-        (λ e el q. without-others s e v q ∙ g .same e el) (without-out s v ∙ sym (dies s x (recordAt x s .phase) good));
+        (λ e el q. without-others s e v q ∙ g .same e el) (without-out s v ∙ sym (dies s x (recordAt x s .phase) (brings (settingsAt t s) good)));
   }
 
   stop-good : (v : Set) (x : State) (s : ℕ) → Good t ts v x → s < t .count → Good t ts v (afterStop x s)

@@ -20,7 +20,7 @@ use Rattle.service.specs.declared.Table.{Table}
 use Rattle.service.proofs.Named.{is-down, is-up, is-waiting}
 use Rattle.service.proofs.States.{Sized, fresh-record, fresh-sized, sized-with, with-all}
 use Rattle.rules.specs.Demand.{ActsOn, Set, deadlineKill, handed, killsBy, nobody, sent, without}
-use Rattle.rules.specs.Events.{afterClock, afterEnd, afterStart, afterStop, afterStopAll, each, endedAs}
+use Rattle.rules.specs.Events.{afterClock, afterEnd, afterStart, afterStop, afterStopAll, brings, each, endedAs}
 use Rattle.rules.specs.Rules.{act, expiredAction, fits, hands, leaves, nextAction}
 use Rattle.rules.specs.declared.Choice.the-variants.{Fit}
 use Rattle.rules.specs.declared.Rule.{Rule}
@@ -101,7 +101,7 @@ module _ (t : Table) (few : t .count ≤ maxServices) where
 
     end-sent : (good : Bool) → KilledSent t (without s u) (afterEnd t x s good)
     unfolding afterEnd endedAs
-    end-sent good = go (recordAt x s .phase) refl good
+    end-sent good = go (recordAt x s .phase) refl (brings (settingsAt t s) good)
       where
         dies : (p : Phase) → isEnding p ≡ false → recordAt x s .phase ≡ p → (r : Record) → r .killed ≡ recordAt x s .killed → KilledSent t (without s u) (withRecord x s r)
         dies p n e r k = sent-with u (without s u) x s r h l (λ i q. without-others s i u q) (λ d. unkilled p n e (sym k ∙ d))

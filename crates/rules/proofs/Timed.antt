@@ -9,26 +9,26 @@ use Rattle.base.specs.Folds.{pick}
 use Rattle.base.proofs.Tests.{no-ft}
 use Rattle.service.specs.Limits.{maxServices}
 use Rattle.service.specs.Records.{freshState, isEnding, isStarting, isWaiting, recordAt, withRecord}
-use Rattle.service.specs.Settings.{isScripted, settingsAt}
+use Rattle.service.specs.Settings.{formOf, settingsAt, startsFirst}
 use Rattle.service.specs.declared.Deadline.the-variants.{At}
-use Rattle.service.specs.declared.Kind.{Kind}
+use Rattle.service.specs.declared.Form.{Form}
 use Rattle.service.specs.declared.Phase.{Phase}
 use Rattle.service.specs.declared.Phase.the-variants.{Down, Ending, Starting, Up, Waiting}
 use Rattle.service.specs.declared.Record.{Record}
 use Rattle.service.specs.declared.State.{State}
 use Rattle.service.specs.declared.Table.{Table}
-use Rattle.service.proofs.Finite.{bools, finite, given, kinds, phases}
+use Rattle.service.proofs.Finite.{bools, finite, given, forms, phases}
 use Rattle.service.proofs.States.{Sized, fresh-record, fresh-sized, sized-with, with-all}
 use Rattle.rules.specs.Calls.{Call, outcome}
 use Rattle.rules.specs.Demand.{NoZeroTimeout}
-use Rattle.rules.specs.Events.{afterClock, afterEnd, afterStart, afterStop, afterStopAll, each, endedAs, stoppedPhase}
+use Rattle.rules.specs.Events.{afterClock, afterEnd, afterStart, afterStop, afterStopAll, brings, each, endedAs, stoppedPhase}
 use Rattle.rules.specs.Rules.{begunPhase, deadlineIn, fits, leaves}
 use Rattle.rules.specs.declared.Rule.{Rule}
 use Rattle.rules.specs.declared.Rule.the-variants.{Abandon, Begin, End, Expire, Lose, Release, Settle, Wake}
 use Rattle.rules.proofs.Each.{each-below, each-sized}
 use Rattle.rules.proofs.Fitting.{expire-fits}
 use Rattle.rules.proofs.Keeps.{call-keeps}
-use Rattle.rules.proofs.LastRests.{scripted-deadline}
+use Rattle.rules.proofs.LastRests.{starting-deadline}
 use Rattle.rules.proofs.Next.{next-keeps}
 use Rattle.rules.proofs.Rest.{acts}
 
@@ -42,11 +42,11 @@ test-released-timing = refl
 pub released-timing : (p : Phase) → timing (pick (isWaiting p) Down p) ≡ true → timing p ≡ true
 released-timing = simp finite at test-released-timing
 
-test-begun-timing : kinds (λ k. given (timing (begunPhase k)) (isScripted k)) ≡ true
-unfolding kinds given
+test-begun-timing : forms (λ k. given (timing (begunPhase k)) (startsFirst k)) ≡ true
+unfolding forms given
 test-begun-timing = refl
 
-pub begun-timing : (k : Kind) → timing (begunPhase k) ≡ true → isScripted k ≡ true
+pub begun-timing : (k : Form) → timing (begunPhase k) ≡ true → startsFirst k ≡ true
 begun-timing = simp finite at test-begun-timing
 
 test-stopped-timing : phases (λ p. given (timing (stoppedPhase p)) (timing p)) ≡ true
@@ -88,7 +88,7 @@ module _ (t : Table) (few : t .count ≤ maxServices) (nz : NoZeroTimeout t) whe
   leaves-timed x s Begin l f h =
       λ e. (
         x .clock + settingsAt t s .«start_timeout»,
-        scripted-deadline (settingsAt t s .kind) (deadlineIn (x .clock) (settingsAt t s .«start_timeout»)) (recordAt x s .deadline) (begun-timing (settingsAt t s .kind) e)
+        starting-deadline (formOf (settingsAt t s)) (deadlineIn (x .clock) (settingsAt t s .«start_timeout»)) (recordAt x s .deadline) (begun-timing (formOf (settingsAt t s)) e)
             ∙ deadline-set (x .clock) (settingsAt t s .«start_timeout») (nz s l .0),
       )
   leaves-timed x s End l f h = λ e. (x .clock + settingsAt t s .«stop_timeout», deadline-set (x .clock) (settingsAt t s .«stop_timeout») (nz s l .1))
@@ -106,7 +106,7 @@ module _ (t : Table) (few : t .count ≤ maxServices) (nz : NoZeroTimeout t) whe
 
   timed-end : (x : State) (s : ℕ) (good : Bool) → s < t .count → Timed t x → Timed t (afterEnd t x s good)
   unfolding afterEnd endedAs
-  timed-end x s good l h = go (recordAt x s .phase) good
+  timed-end x s good l h = go (recordAt x s .phase) (brings (settingsAt t s) good)
     where
       go : (p : Phase) (b : Bool) → Timed t (withRecord x s (endedAs p (settingsAt t s) (x .clock) b (recordAt x s)))
       go Down b = timed-with x s _ h l (h .timed s l)

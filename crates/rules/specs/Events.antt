@@ -14,8 +14,8 @@ use Rattle.service.specs.declared.Settings.{Settings}
 use Rattle.service.specs.declared.Record.{Record}
 use Rattle.service.specs.declared.State.{State}
 use Rattle.service.specs.declared.Table.{Table}
-use Rattle.service.specs.Settings.{settingsAt}
-use Rattle.service.specs.Records.{recordAt, withRecord, isNone, active}
+use Rattle.service.specs.Settings.{formOf, isPassing, settingsAt}
+use Rattle.service.specs.Records.{recordAt, withRecord, isNone, active, moved, withAside, withCause, withLive, withNotBefore, withPhase, withWanted}
 use Rattle.rules.specs.Dependencies.{allLinks}
 use Rattle.rules.specs.Settling.{settledAs, settled}
 
@@ -39,19 +39,9 @@ revivedCause Failed = Released
 
 -- the record of a service that is s itself or not, and is reached or not
 abbrev pub startedAs : Bool → Bool → Record → Record
-startedAs self reached r = record {
-  phase = r .phase;
-  wanted = r .wanted || self;
-  aside = r .aside && not reached;
-  live = r .live;
-  cause = pick reached (revivedCause (r .cause)) (r .cause);
-  deadline = r .deadline;
-  killed = r .killed;
-  «not_before» = pick reached 0 (r .«not_before»);
-  «last_launch» = r .«last_launch»;
-  «window_start» = r .«window_start»;
-  restarts = r .restarts;
-}
+startedAs self reached r =
+    withCause (pick reached (revivedCause (r .cause)) (r .cause))
+    (withWanted (r .wanted || self) (withAside (r .aside && not reached) (withNotBefore (pick reached 0 (r .«not_before»)) r)))
 
 unfoldable pub afterStart : Table → State → ℕ → State
 afterStart t x s = each (λ d r. startedAs (eqb d s) (startReaches t s d) r) x (t .count)
@@ -67,19 +57,9 @@ stoppedPhase Up = Up
 stoppedPhase Ending = Ending
 
 abbrev pub stopped : Record → Record
-stopped r = record {
-  phase = stoppedPhase (r .phase);
-  wanted = false;
-  aside = not (active (r .phase)) || r .aside;
-  live = r .live;
-  cause = pick (active (r .phase)) User (r .cause);
-  deadline = r .deadline;
-  killed = r .killed;
-  «not_before» = r .«not_before»;
-  «last_launch» = r .«last_launch»;
-  «window_start» = r .«window_start»;
-  restarts = r .restarts;
-}
+stopped r =
+    withPhase (stoppedPhase (r .phase)) (withCause (pick (active (r .phase)) User (r .cause))
+    (withWanted false (withAside (not (active (r .phase)) || r .aside) r)))
 
 unfoldable pub afterStop : State → ℕ → State
 afterStop x s = withRecord x s (stopped (recordAt x s))
@@ -90,52 +70,17 @@ afterStopAll t x = each (λ d r. stopped r) x (t .count)
 
 -- ---- end of s, good or bad
 
--- "live off", with the phase, cause and deadline given
+-- "live off"
 abbrev pub dead : Record → Record
-dead r = record {
-  phase = r .phase;
-  wanted = r .wanted;
-  aside = r .aside;
-  live = false;
-  cause = r .cause;
-  deadline = r .deadline;
-  killed = r .killed;
-  «not_before» = r .«not_before»;
-  «last_launch» = r .«last_launch»;
-  «window_start» = r .«window_start»;
-  restarts = r .restarts;
-}
+dead r = withLive false r
 
 -- "Starting: good gives up (no deadline, cause kept)"
 abbrev pub startedUp : Record → Record
-startedUp r = record {
-  phase = Up;
-  wanted = r .wanted;
-  aside = r .aside;
-  live = r .live;
-  cause = r .cause;
-  deadline = NoDeadline;
-  killed = r .killed;
-  «not_before» = r .«not_before»;
-  «last_launch» = r .«last_launch»;
-  «window_start» = r .«window_start»;
-  restarts = r .restarts;
-}
+startedUp r = moved Up (r .cause) NoDeadline r
 
-abbrev pub withCause : Cause → Record → Record
-withCause c r = record {
-  phase = r .phase;
-  wanted = r .wanted;
-  aside = r .aside;
-  live = r .live;
-  cause = c;
-  deadline = r .deadline;
-  killed = r .killed;
-  «not_before» = r .«not_before»;
-  «last_launch» = r .«last_launch»;
-  «window_start» = r .«window_start»;
-  restarts = r .restarts;
-}
+-- the end of a start brings the service up
+abbrev pub brings : Settings → Bool → Bool
+brings v good = good && isPassing (formOf v)
 
 unfoldable pub endedAs : Phase → Settings → ℕ → Bool → Record → Record
 endedAs Down v now good r = dead r
@@ -147,7 +92,7 @@ endedAs Ending v now good r = settled v now (dead r)
 
 unfoldable pub afterEnd : Table → State → ℕ → Bool → State
 afterEnd t x s good =
-    withRecord x s (endedAs (recordAt x s .phase) (settingsAt t s) (x .clock) good (recordAt x s))
+    withRecord x s (endedAs (recordAt x s .phase) (settingsAt t s) (x .clock) (brings (settingsAt t s) good) (recordAt x s))
 
 -- ---- clock
 

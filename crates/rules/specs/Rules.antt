@@ -4,8 +4,8 @@ use mathlib.Core.Bool.{Bool, true, false, not, _&&_, _||_}
 use mathlib.Core.List.{List, [], _∷_}
 use lib.Dec.{leb, ltb, eqb}
 use Rattle.base.specs.Folds.{pick, implies, some, every, first}
-use Rattle.service.specs.declared.Kind.{Kind}
-use Rattle.service.specs.declared.Kind.the-variants.{Process, Scripted, Internal}
+use Rattle.service.specs.declared.Form.{Form}
+use Rattle.service.specs.declared.Form.the-variants.{Bare, Passing, Direct, Delayed}
 use Rattle.service.specs.declared.Signal.{Signal as SignalName}
 use Rattle.service.specs.declared.Signal.the-variants.{None as NoSignal, Hup, Int, Term, Quit, Usr1, Usr2, Kill}
 use Rattle.service.specs.declared.Phase.{Phase}
@@ -19,15 +19,15 @@ use Rattle.service.specs.declared.Settings.{Settings}
 use Rattle.service.specs.declared.Record.{Record}
 use Rattle.service.specs.declared.State.{State}
 use Rattle.service.specs.declared.Table.{Table}
-use Rattle.service.specs.Settings.{settingsAt}
+use Rattle.service.specs.Settings.{formOf, settingsAt}
 use Rattle.service.specs.Records.{recordAt, withRecord, isDown, isWaiting, isStarting, isUp, isEnding, isNone, isUser}
+use Rattle.service.specs.Records.{moved, withAside, withCause, withKilled, withLaunch, withLive, withPhase, withWanted}
 use Rattle.rules.specs.declared.Rule.{Rule}
 use Rattle.rules.specs.declared.Rule.the-variants.{Lose, Abandon, Settle, Wake, Release, Begin, End, Expire}
 use Rattle.rules.specs.declared.Choice.{Choice}
 use Rattle.rules.specs.declared.Choice.the-variants.{Quiet as NoRule, Fit}
 use Rattle.rules.specs.Dependencies.{hard, strong, soft, depends, serving, closing, barred, blocked, needed}
 use Rattle.rules.specs.Settling.{settled}
-use Rattle.rules.specs.Events.{withCause}
 
 -- ---- words of the rules
 
@@ -36,10 +36,11 @@ abbrev pub running : Record → Bool
 running r = (isStarting (r .phase) || isUp (r .phase)) && isNone (r .cause)
 
 -- "nothing to end (dead process, internal, scripted without stop-command)"
-abbrev pub nothingToEnd : Kind → Bool → Bool → Bool
-nothingToEnd Process hasStop live = not live
-nothingToEnd Scripted hasStop live = not hasStop
-nothingToEnd Internal hasStop live = true
+abbrev pub nothingToEnd : Form → Bool → Bool → Bool
+nothingToEnd Bare hasStop live = true
+nothingToEnd Passing hasStop live = not hasStop
+nothingToEnd Direct hasStop live = not live
+nothingToEnd Delayed hasStop live = not live
 
 -- the clock is at or past a deadline
 unfoldable pub due : ℕ → Deadline → Bool
@@ -57,7 +58,7 @@ fits Lose t x s = running (recordAt x s) && some (λ d. hard t s d && not (servi
 fits Abandon t x s = isWaiting (recordAt x s .phase) && some (λ d. strong t s d && barred (recordAt x d)) (t .count)
 fits Settle t x s =
     closing (recordAt x s) && not (blocked t x s)
-    && nothingToEnd (settingsAt t s .kind) (settingsAt t s .«has_stop») (recordAt x s .live)
+    && nothingToEnd (formOf (settingsAt t s)) (settingsAt t s .«has_stop») (recordAt x s .live)
 fits Wake t x s =
     isDown (recordAt x s .phase) && not (recordAt x s .aside)
     && (recordAt x s .wanted || some (λ e. depends t e s && isWaiting (recordAt x e .phase)) (t .count))
@@ -80,104 +81,50 @@ unfoldable pub lostToUser : Table → State → ℕ → Bool
 lostToUser t x s =
     some (λ d. hard t s d && (not (serving (recordAt x d)) && isUser (recordAt x d .cause))) (t .count)
 
--- rules 2 and 4
+-- rule 2: "down, aside, wanted off"
 abbrev pub abandoned : Record → Record
-abandoned r = record {
-  phase = Down;
-  wanted = false;
-  aside = true;
-  live = r .live;
-  cause = r .cause;
-  deadline = r .deadline;
-  killed = r .killed;
-  «not_before» = r .«not_before»;
-  «last_launch» = r .«last_launch»;
-  «window_start» = r .«window_start»;
-  restarts = r .restarts;
-}
-
-abbrev pub withPhase : Phase → Record → Record
-withPhase p r = record {
-  phase = p;
-  wanted = r .wanted;
-  aside = r .aside;
-  live = r .live;
-  cause = r .cause;
-  deadline = r .deadline;
-  killed = r .killed;
-  «not_before» = r .«not_before»;
-  «last_launch» = r .«last_launch»;
-  «window_start» = r .«window_start»;
-  restarts = r .restarts;
-}
+abandoned r = withPhase Down (withWanted false (withAside true r))
 
 -- rule 5: "waiting goes down; else cause released"
 abbrev pub released : Record → Record
 released r =
     withCause (pick (isWaiting (r .phase)) (r .cause) Released) (withPhase (pick (isWaiting (r .phase)) Down (r .phase)) r)
 
--- rule 6, by type
-abbrev pub begunPhase : Kind → Phase
-begunPhase Process = Up
-begunPhase Scripted = Starting
-begunPhase Internal = Up
+-- rule 6, by form
+abbrev pub begunPhase : Form → Phase
+begunPhase Bare = Up
+begunPhase Passing = Starting
+begunPhase Direct = Up
+begunPhase Delayed = Starting
 
-abbrev pub begunLive : Kind → Bool → Bool
-begunLive Process live = true
-begunLive Scripted live = true
-begunLive Internal live = live
+abbrev pub begunLive : Form → Bool → Bool
+begunLive Bare live = live
+begunLive Passing live = true
+begunLive Direct live = true
+begunLive Delayed live = true
 
-abbrev pub begunDeadline : Kind → Deadline → Deadline → Deadline
-begunDeadline Process new old = old
-begunDeadline Scripted new old = new
-begunDeadline Internal new old = old
+abbrev pub begunDeadline : Form → Deadline → Deadline → Deadline
+begunDeadline Bare new old = old
+begunDeadline Passing new old = new
+begunDeadline Direct new old = old
+begunDeadline Delayed new old = new
 
 abbrev pub begun : Settings → ℕ → Record → Record
-begun v now r = record {
-  phase = begunPhase (v .kind);
-  wanted = r .wanted;
-  aside = r .aside;
-  live = begunLive (v .kind) (r .live);
-  cause = r .cause;
-  deadline = begunDeadline (v .kind) (deadlineIn now (v .«start_timeout»)) (r .deadline);
-  killed = r .killed;
-  «not_before» = r .«not_before»;
-  «last_launch» = now;
-  «window_start» = r .«window_start»;
-  restarts = r .restarts;
-}
+begun v now r =
+    moved (begunPhase (formOf v)) (r .cause) (begunDeadline (formOf v) (deadlineIn now (v .«start_timeout»)) (r .deadline))
+    (withLive (begunLive (formOf v) (r .live)) (withLaunch now r))
 
 -- rule 7: "ending, live, stop deadline"
 abbrev pub ending : Settings → ℕ → Record → Record
-ending v now r = record {
-  phase = Ending;
-  wanted = r .wanted;
-  aside = r .aside;
-  live = true;
-  cause = r .cause;
-  deadline = deadlineIn now (v .«stop_timeout»);
-  killed = r .killed;
-  «not_before» = r .«not_before»;
-  «last_launch» = r .«last_launch»;
-  «window_start» = r .«window_start»;
-  restarts = r .restarts;
-}
+ending v now r = moved Ending (r .cause) (deadlineIn now (v .«stop_timeout»)) (withLive true r)
 
 -- rule 8: "ending, cause failed unless user, stop deadline" where it was starting, and else "killed"
 abbrev pub expired : Bool → Settings → ℕ → Record → Record
-expired starting v now r = record {
-  phase = Ending;
-  wanted = r .wanted;
-  aside = r .aside;
-  live = r .live;
-  cause = pick starting (pick (isUser (r .cause)) User Failed) (r .cause);
-  deadline = pick starting (deadlineIn now (v .«stop_timeout»)) (r .deadline);
-  killed = pick starting (r .killed) true;
-  «not_before» = r .«not_before»;
-  «last_launch» = r .«last_launch»;
-  «window_start» = r .«window_start»;
-  restarts = r .restarts;
-}
+expired starting v now r =
+    moved Ending
+    (pick starting (pick (isUser (r .cause)) User Failed) (r .cause))
+    (pick starting (deadlineIn now (v .«stop_timeout»)) (r .deadline))
+    (withKilled (pick starting (r .killed) true) r)
 
 -- from the settings, the clock and the record alone; `user` says whether rule 1 gives the cause user
 abbrev pub leftBy : Rule → Bool → Settings → ℕ → Record → Record
@@ -196,10 +143,11 @@ leaves k t x s = leftBy k (lostToUser t x s) (settingsAt t s) (x .clock) (record
 -- ---- what it hands out
 
 -- rule 6: "Internal: up, moved. Process: up, live, launch. Scripted: starting, live, launch"
-abbrev pub begunAction : Kind → ℕ → Action
-begunAction Process s = Launch s
-begunAction Scripted s = Launch s
-begunAction Internal s = Moved s
+abbrev pub begunAction : Form → ℕ → Action
+begunAction Bare s = Moved s
+begunAction Passing s = Launch s
+begunAction Direct s = Launch s
+begunAction Delayed s = Launch s
 
 -- rule 7: "process, its term signal; scripted, run stop-command"; "(Signal none: moved.)"
 abbrev pub termAction : SignalName → ℕ → Action
@@ -212,10 +160,11 @@ termAction Usr1 s = Signal s Usr1
 termAction Usr2 s = Signal s Usr2
 termAction Kill s = Signal s Kill
 
-abbrev pub endAction : Kind → SignalName → ℕ → Action
-endAction Process g s = termAction g s
-endAction Scripted g s = StopCommand s
-endAction Internal g s = Moved s
+abbrev pub endAction : Form → SignalName → ℕ → Action
+endAction Bare g s = Moved s
+endAction Passing g s = StopCommand s
+endAction Direct g s = termAction g s
+endAction Delayed g s = termAction g s
 
 -- rule 8: INT where it was starting, and else KILL
 abbrev pub expiredAction : Phase → ℕ → Action
@@ -228,8 +177,8 @@ handedBy Abandon v r s = Moved s
 handedBy Settle v r s = Moved s
 handedBy Wake v r s = Moved s
 handedBy Release v r s = Moved s
-handedBy Begin v r s = begunAction (v .kind) s
-handedBy End v r s = endAction (v .kind) (v .signal) s
+handedBy Begin v r s = begunAction (formOf v) s
+handedBy End v r s = endAction (formOf v) (v .signal) s
 handedBy Expire v r s = expiredAction (r .phase) s
 
 unfoldable pub hands : Rule → Table → State → ℕ → Action

@@ -9,6 +9,7 @@ use Rattle.service.specs.declared.Cause.the-variants.{None as NoCause, User, Re
 use Rattle.service.specs.declared.Deadline.the-variants.{None as NoDeadline}
 use Rattle.service.specs.declared.Settings.{Settings}
 use Rattle.service.specs.declared.Record.{Record}
+use Rattle.service.specs.Records.{moved, withAside, withCount, withKilled, withNotBefore, withWanted, withWindow}
 
 -- "if clock minus window start is at least the interval, window start is the clock and the count 0"
 abbrev pub windowOver : Settings → ℕ → Record → Bool
@@ -62,19 +63,10 @@ settledCount Failed v now r = r .restarts
 
 -- "down, no cause, deadline none, killed off", and the rest by the cause c
 abbrev pub settledAs : Cause → Settings → ℕ → Record → Record
-settledAs c v now r = record {
-  phase = Down;
-  wanted = settledWanted c v now r;
-  aside = settledAside c v now r;
-  live = r .live;
-  cause = NoCause;
-  deadline = NoDeadline;
-  killed = false;
-  «not_before» = settledNotBefore c v now r;
-  «last_launch» = r .«last_launch»;
-  «window_start» = settledWindow c v now r;
-  restarts = settledCount c v now r;
-}
+settledAs c v now r =
+    moved Down NoCause NoDeadline
+    (withKilled false (withWanted (settledWanted c v now r) (withAside (settledAside c v now r)
+    (withNotBefore (settledNotBefore c v now r) (withWindow (settledWindow c v now r) (withCount (settledCount c v now r) r))))))
 
 abbrev pub settled : Settings → ℕ → Record → Record
 settled v now r = settledAs (r .cause) v now r

@@ -5,7 +5,7 @@ use lib.Dec.{leb}
 use Rattle.base.specs.Folds.{implies, every}
 use Rattle.base.specs.Sets.{within}
 use Rattle.base.specs.Links.{cyclic}
-use Rattle.service.specs.declared.Kind.{Kind}
+use Rattle.service.specs.declared.Form.{Form}
 use Rattle.service.specs.declared.Phase.{Phase}
 use Rattle.service.specs.declared.Phase.the-variants.{Down, Waiting, Starting, Up, Ending}
 use Rattle.service.specs.declared.Cause.{Cause}
@@ -16,7 +16,7 @@ use Rattle.service.specs.declared.Record.{Record}
 use Rattle.service.specs.declared.State.{State}
 use Rattle.service.specs.declared.Table.{Table}
 use Rattle.service.specs.Limits.{maxServices, longestTime, maxCount, lastClock, lastTime}
-use Rattle.service.specs.Settings.{settingsAt, isProcess, isScripted}
+use Rattle.service.specs.Settings.{settingsAt, formOf, startsFirst, livesUp}
 use Rattle.service.specs.Records.{recordAt, isNone}
 use Rattle.rules.specs.Dependencies.{allLinks}
 
@@ -47,16 +47,16 @@ timesInRange now r =
     leb (r .«last_launch») now && leb (r .«window_start») now && deadlineInRange (r .deadline)
     && leb (r .«not_before») lastTime && leb (r .restarts) maxCount
 
--- the records that the list lets pass, by type, phase, live and cause
-abbrev pub shaped : Kind → Phase → Bool → Cause → Bool
-shaped k Down live c = not live && isNone c
-shaped k Waiting live c = not live && isNone c
-shaped k Starting live c = isScripted k && live
-shaped k Up live c = implies live (isProcess k) && implies (isNone c && isProcess k) live
-shaped k Ending live c = live && not (isNone c)
+-- the records that the list lets pass, by form, phase, live and cause
+abbrev pub shaped : Form → Phase → Bool → Cause → Bool
+shaped f Down live c = not live && isNone c
+shaped f Waiting live c = not live && isNone c
+shaped f Starting live c = startsFirst f && live
+shaped f Up live c = implies live (livesUp f) && implies (isNone c && livesUp f) live
+shaped f Ending live c = live && not (isNone c)
 
 unfoldable pub shapedAt : Table → State → ℕ → Bool
-shapedAt t x s = shaped (settingsAt t s .kind) (recordAt x s .phase) (recordAt x s .live) (recordAt x s .cause)
+shapedAt t x s = shaped (formOf (settingsAt t s)) (recordAt x s .phase) (recordAt x s .live) (recordAt x s .cause)
 
 -- list 24's part on states
 unfoldable pub stateFormed : Table → State → Bool

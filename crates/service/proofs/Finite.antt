@@ -1,5 +1,5 @@
 -- A law on phases, causes, types and truth values, proved by running a test at each of them: state the test with
--- `phases`, `causes`, `kinds`, `bools` and `given`, prove it by computing, and turn it into the law by `simp finite`.
+-- `phases`, `causes`, `forms`, `bools` and `given`, prove it by computing, and turn it into the law by `simp finite`.
 use mathlib.Core.Bool.{Bool, _&&_, false, true}
 use mathlib.Core.Logic.{_↔_}
 use mathlib.Core.Path.{_≡_}
@@ -7,8 +7,8 @@ use Rattle.base.specs.Folds.{implies}
 use Rattle.base.proofs.Tests.{imp-true, tests}
 use Rattle.service.specs.declared.Cause.{Cause}
 use Rattle.service.specs.declared.Cause.the-variants.{Failed, Fell, None as NoCause, Released, User}
-use Rattle.service.specs.declared.Kind.{Kind}
-use Rattle.service.specs.declared.Kind.the-variants.{Internal, Process, Scripted}
+use Rattle.service.specs.declared.Form.{Form}
+use Rattle.service.specs.declared.Form.the-variants.{Bare, Passing, Direct, Delayed}
 use Rattle.service.specs.declared.Phase.{Phase}
 use Rattle.service.specs.declared.Phase.the-variants.{Down, Ending, Starting, Up, Waiting}
 
@@ -18,8 +18,8 @@ phases f = f Down && (f Waiting && (f Starting && (f Up && f Ending)))
 unfoldable pub causes : (Cause → Bool) → Bool
 causes f = f NoCause && (f User && (f Released && (f Fell && f Failed)))
 
-unfoldable pub kinds : (Kind → Bool) → Bool
-kinds f = f Process && (f Scripted && f Internal)
+unfoldable pub forms : (Form → Bool) → Bool
+forms f = f Bare && (f Passing && (f Direct && f Delayed))
 
 unfoldable pub bools : (Bool → Bool) → Bool
 bools f = f true && f false
@@ -50,16 +50,17 @@ module _ (f : Cause → Bool) where
   unfolding causes
   causes-true = (cause-to, λ h. simp tests (h NoCause, (h User, (h Released, (h Fell, h Failed)))))
 
-module _ (f : Kind → Bool) where
-  kind-to : kinds f ≡ true → (k : Kind) → f k ≡ true
-  unfolding kinds
-  kind-to e Process = (simp tests at e) .0
-  kind-to e Scripted = (simp tests at e) .1 .0
-  kind-to e Internal = (simp tests at e) .1 .1
+module _ (f : Form → Bool) where
+  form-to : forms f ≡ true → (k : Form) → f k ≡ true
+  unfolding forms
+  form-to e Bare = (simp tests at e) .0
+  form-to e Passing = (simp tests at e) .1 .0
+  form-to e Direct = (simp tests at e) .1 .1 .0
+  form-to e Delayed = (simp tests at e) .1 .1 .1
 
-  pub kinds-true : (kinds f ≡ true) ↔ ((k : Kind) → f k ≡ true)
-  unfolding kinds
-  kinds-true = (kind-to, λ h. simp tests (h Process, (h Scripted, h Internal)))
+  pub forms-true : (forms f ≡ true) ↔ ((k : Form) → f k ≡ true)
+  unfolding forms
+  forms-true = (form-to, λ h. simp tests (h Bare, (h Passing, (h Direct, h Delayed))))
 
 module _ (f : Bool → Bool) where
   bool-to : bools f ≡ true → (b : Bool) → f b ≡ true
@@ -79,4 +80,4 @@ pub given-true : (a b : Bool) → (given a b ≡ true) ↔ ((a ≡ true) → b �
 unfolding given
 given-true a b = imp-true a b
 
-pub ruleset finite = (phases-true, causes-true, kinds-true, bools-true, given-true)
+pub ruleset finite = (phases-true, causes-true, forms-true, bools-true, given-true)

@@ -2,3 +2,4 @@
 pub mod Finite
 pub mod Named
 pub mod States
+pub mod Numbering

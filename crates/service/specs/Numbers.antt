@@ -1,33 +1,82 @@
--- Each case of an enum as paper 01's numbers: signals, actions and refusals.
+-- The numbers of types, signals, phases, causes, refusals and actions: the first four from 0 in paper 01's order, and back; a number past a
+-- list's last stands for none, and is read as the last.
 use Prim.Native.Nat.{ℕ, zero, suc, _+_}
 use mathlib.Core.Bool.{Bool, true, false}
+use lib.Dec.{eqb}
+use Rattle.base.specs.Folds.{pick}
+use Rattle.service.specs.declared.Kind.{Kind}
+use Rattle.service.specs.declared.Kind.the-variants.{Process, Scripted, Internal}
 use Rattle.service.specs.declared.Signal.{Signal as SignalName}
 use Rattle.service.specs.declared.Signal.the-variants.{None as NoSignal, Hup, Int, Term, Quit, Usr1, Usr2, Kill}
+use Rattle.service.specs.declared.Phase.{Phase}
+use Rattle.service.specs.declared.Phase.the-variants.{Down, Waiting, Starting, Up, Ending}
+use Rattle.service.specs.declared.Cause.{Cause}
+use Rattle.service.specs.declared.Cause.the-variants.{None as NoCause, User, Released, Fell, Failed}
 use Rattle.service.specs.declared.Action.{Action}
 use Rattle.service.specs.declared.Action.the-variants.{Quiet, Moved, Launch, StopCommand, Signal}
 use Rattle.service.specs.declared.Refusal.{Refusal}
 use Rattle.service.specs.declared.Refusal.the-variants.{IllFormed, NoService, NotLive, ClockBack, ClockPast, NoRoom}
 
+-- "process, scripted, internal"
+abbrev pub kindNumber : Kind → ℕ
+kindNumber Process = 0
+kindNumber Scripted = 1
+kindNumber Internal = 2
+
+abbrev pub lastKind : ℕ
+lastKind = 2
+
+abbrev pub kindAt : ℕ → Kind
+kindAt n =
+    pick (eqb n 0) Process (pick (eqb n 1) Scripted Internal)
+
 -- a signal's place in paper 01's list, from 0
-abbrev pub signalPlace : SignalName → ℕ
-signalPlace NoSignal = 0
-signalPlace Hup = 1
-signalPlace Int = 2
-signalPlace Term = 3
-signalPlace Quit = 4
-signalPlace Usr1 = 5
-signalPlace Usr2 = 6
-signalPlace Kill = 7
+abbrev pub signalNumber : SignalName → ℕ
+signalNumber NoSignal = 0
+signalNumber Hup = 1
+signalNumber Int = 2
+signalNumber Term = 3
+signalNumber Quit = 4
+signalNumber Usr1 = 5
+signalNumber Usr2 = 6
+signalNumber Kill = 7
+
+abbrev pub lastSignal : ℕ
+lastSignal = 7
 
 abbrev pub signalAt : ℕ → SignalName
-signalAt zero = NoSignal
-signalAt (suc zero) = Hup
-signalAt (suc (suc zero)) = Int
-signalAt (suc (suc (suc zero))) = Term
-signalAt (suc (suc (suc (suc zero)))) = Quit
-signalAt (suc (suc (suc (suc (suc zero))))) = Usr1
-signalAt (suc (suc (suc (suc (suc (suc zero)))))) = Usr2
-signalAt (suc (suc (suc (suc (suc (suc (suc n))))))) = Kill
+signalAt n =
+    pick (eqb n 0) NoSignal (pick (eqb n 1) Hup (pick (eqb n 2) Int (pick (eqb n 3) Term (pick (eqb n 4) Quit (pick (eqb n 5) Usr1 (pick (eqb n 6) Usr2 Kill))))))
+
+-- "Phase: down, waiting, starting, up, ending"
+abbrev pub phaseNumber : Phase → ℕ
+phaseNumber Down = 0
+phaseNumber Waiting = 1
+phaseNumber Starting = 2
+phaseNumber Up = 3
+phaseNumber Ending = 4
+
+abbrev pub lastPhase : ℕ
+lastPhase = 4
+
+abbrev pub phaseAt : ℕ → Phase
+phaseAt n =
+    pick (eqb n 0) Down (pick (eqb n 1) Waiting (pick (eqb n 2) Starting (pick (eqb n 3) Up Ending)))
+
+-- "cause (none, user, released, fell, failed)"
+abbrev pub causeNumber : Cause → ℕ
+causeNumber NoCause = 0
+causeNumber User = 1
+causeNumber Released = 2
+causeNumber Fell = 3
+causeNumber Failed = 4
+
+abbrev pub lastCause : ℕ
+lastCause = 4
+
+abbrev pub causeAt : ℕ → Cause
+causeAt n =
+    pick (eqb n 0) NoCause (pick (eqb n 1) User (pick (eqb n 2) Released (pick (eqb n 3) Fell Failed)))
 
 abbrev pub isQuiet : Action → Bool
 isQuiet Quiet = true
@@ -50,7 +99,7 @@ actionNumber Quiet = 0
 actionNumber (Moved s) = 0
 actionNumber (Launch s) = 1
 actionNumber (StopCommand s) = 2
-actionNumber (Signal s g) = 3 + signalPlace g
+actionNumber (Signal s g) = 3 + signalNumber g
 
 -- the action that two such numbers stand for
 abbrev pub actionOf : ℕ → ℕ → Action

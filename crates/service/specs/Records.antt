@@ -6,6 +6,7 @@ use Rattle.service.specs.declared.Phase.{Phase}
 use Rattle.service.specs.declared.Phase.the-variants.{Down, Waiting, Starting, Up, Ending}
 use Rattle.service.specs.declared.Cause.{Cause}
 use Rattle.service.specs.declared.Cause.the-variants.{None as NoCause, User, Released, Fell, Failed}
+use Rattle.service.specs.declared.Deadline.{Deadline}
 use Rattle.service.specs.declared.Deadline.the-variants.{None as NoDeadline}
 use Rattle.service.specs.declared.Record.{Record}
 use Rattle.service.specs.declared.State.{State}
@@ -84,6 +85,71 @@ freshRecord = record {
   «window_start» = 0;
   restarts = 0;
 }
+
+-- ---- a record changed: the one place that names every field. What is not given is kept
+
+-- the record r with another phase, cause and deadline, four flags and four numbers
+abbrev pub remade : Phase → Cause → Deadline → Bool → Bool → Bool → Bool → ℕ → ℕ → ℕ → ℕ → Record → Record
+remade p c d wanted aside live killed notBefore launch window count r = record {
+  phase = p;
+  wanted = wanted;
+  aside = aside;
+  live = live;
+  cause = c;
+  deadline = d;
+  killed = killed;
+  «not_before» = notBefore;
+  «last_launch» = launch;
+  «window_start» = window;
+  restarts = count;
+}
+
+-- the record r with another phase, cause and deadline
+abbrev pub moved : Phase → Cause → Deadline → Record → Record
+moved p c d r =
+    remade p c d (r .wanted) (r .aside) (r .live) (r .killed)
+    (r .«not_before») (r .«last_launch») (r .«window_start») (r .restarts) r
+
+-- the record r with other flags: wanted, aside, live, killed
+abbrev pub flagged : Bool → Bool → Bool → Bool → Record → Record
+flagged wanted aside live killed r =
+    remade (r .phase) (r .cause) (r .deadline) wanted aside live killed
+    (r .«not_before») (r .«last_launch») (r .«window_start») (r .restarts) r
+
+-- the record r with other numbers: not-before, last launch, window start, restart count
+abbrev pub clocked : ℕ → ℕ → ℕ → ℕ → Record → Record
+clocked notBefore launch window count r =
+    remade (r .phase) (r .cause) (r .deadline) (r .wanted) (r .aside) (r .live) (r .killed) notBefore launch window count r
+
+abbrev pub withPhase : Phase → Record → Record
+withPhase p r = moved p (r .cause) (r .deadline) r
+
+abbrev pub withCause : Cause → Record → Record
+withCause c r = moved (r .phase) c (r .deadline) r
+
+abbrev pub withWanted : Bool → Record → Record
+withWanted b r = flagged b (r .aside) (r .live) (r .killed) r
+
+abbrev pub withAside : Bool → Record → Record
+withAside b r = flagged (r .wanted) b (r .live) (r .killed) r
+
+abbrev pub withLive : Bool → Record → Record
+withLive b r = flagged (r .wanted) (r .aside) b (r .killed) r
+
+abbrev pub withKilled : Bool → Record → Record
+withKilled b r = flagged (r .wanted) (r .aside) (r .live) b r
+
+abbrev pub withNotBefore : ℕ → Record → Record
+withNotBefore n r = clocked n (r .«last_launch») (r .«window_start») (r .restarts) r
+
+abbrev pub withLaunch : ℕ → Record → Record
+withLaunch n r = clocked (r .«not_before») n (r .«window_start») (r .restarts) r
+
+abbrev pub withWindow : ℕ → Record → Record
+withWindow n r = clocked (r .«not_before») (r .«last_launch») n (r .restarts) r
+
+abbrev pub withCount : ℕ → Record → Record
+withCount n r = clocked (r .«not_before») (r .«last_launch») (r .«window_start») n r
 
 unfoldable pub freshState : State
 freshState = record { clock = 0; records = replicate maxServices freshRecord }

@@ -5,20 +5,44 @@ use lib.Bits.{bitOr}
 use lib.ListN.{getD, replicate}
 use Rattle.service.specs.declared.Kind.{Kind}
 use Rattle.service.specs.declared.Kind.the-variants.{Process, Scripted, Internal}
+use Rattle.service.specs.declared.Form.{Form}
+use Rattle.service.specs.declared.Form.the-variants.{Bare, Passing, Direct, Delayed}
 use Rattle.service.specs.declared.Signal.the-variants.{None as NoSignal, Term}
 use Rattle.service.specs.declared.Settings.{Settings}
 use Rattle.service.specs.declared.Table.{Table}
 use Rattle.service.specs.Limits.{maxServices, defaultDelay, defaultInterval, defaultLimit, defaultStartTimeout, defaultStopTimeout}
 
-abbrev pub isProcess : Kind → Bool
-isProcess Process = true
-isProcess Scripted = false
-isProcess Internal = false
+-- ---- a service's form: how it is launched, and whether it has a live process while up
 
-abbrev pub isScripted : Kind → Bool
-isScripted Process = false
-isScripted Scripted = true
-isScripted Internal = false
+-- "Internal: up, moved. Process: up, live, launch. Scripted: starting, live, launch"
+abbrev pub formOfKind : Kind → Form
+formOfKind Process = Direct
+formOfKind Scripted = Passing
+formOfKind Internal = Bare
+
+abbrev pub formOf : Settings → Form
+formOf v = formOfKind (v .kind)
+
+-- launched into starting, with no process once it is up: the good end of its start brings it up
+abbrev pub isPassing : Form → Bool
+isPassing Bare = false
+isPassing Passing = true
+isPassing Direct = false
+isPassing Delayed = false
+
+-- its launch leads to starting
+abbrev pub startsFirst : Form → Bool
+startsFirst Bare = false
+startsFirst Passing = true
+startsFirst Direct = false
+startsFirst Delayed = true
+
+-- it has a live process while it is up
+abbrev pub livesUp : Form → Bool
+livesUp Bare = false
+livesUp Passing = false
+livesUp Direct = true
+livesUp Delayed = true
 
 -- the services that one depends on by depends-on or depends-ms
 abbrev pub strongOf : Settings → ℕ

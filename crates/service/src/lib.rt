@@ -1,7 +1,25 @@
-// What a service is: its settings and the table of all services, its record and the state, the actions and the answers.
+// What a service is: its settings and the table of all services, its record and the state, the actions and the answers; each enum's numbers.
+mod numbers;
+
+pub use numbers::LAST_CAUSE;
+pub use numbers::LAST_KIND;
+pub use numbers::LAST_PHASE;
+pub use numbers::LAST_SIGNAL;
+pub use numbers::action_number;
+pub use numbers::action_service;
+pub use numbers::cause_at;
+pub use numbers::cause_number;
+pub use numbers::is_quiet;
+pub use numbers::kind_at;
+pub use numbers::kind_number;
+pub use numbers::phase_at;
+pub use numbers::phase_number;
+pub use numbers::refusal_number;
+pub use numbers::signal_at;
+pub use numbers::signal_number;
 ghost use mathlib.Core.Path.{_≡_};
-ghost use Rattle.service.specs.Settings.{defaultSettings, noServices, strongOf, linksOf};
-ghost use Rattle.service.specs.Records.{freshRecord, freshState};
+ghost use Rattle.service.specs.Settings.{defaultSettings, formOf, noServices, strongOf, linksOf};
+ghost use Rattle.service.specs.Records.{freshRecord, freshState, moved, withPhase, withCause};
 
 // The most services that a set may have.
 pub const MAX_SERVICES: usize = 32;
@@ -23,6 +41,18 @@ pub enum Kind {
     Process,
     Scripted,
     Internal,
+}
+
+// How a service is launched, and whether it has a live process while it is up.
+pub enum Form {
+    // no launch: up at once, never live
+    Bare,
+    // launched into starting, not live while up
+    Passing,
+    // launched straight up, live while up
+    Direct,
+    // launched into starting, live while up
+    Delayed,
 }
 
 // What term-signal names, in paper 01's order; none sends nothing.
@@ -205,6 +235,18 @@ impl Settings {
     }
 }
 
+// The form that a type gives a service. No type gives the delayed one yet; the rules have it all the same.
+pub fn form_of(v: Settings) -> Form
+    ensures { λ f. ⌜ f ≡ formOf v ⌝ }
+{
+    let k = v.kind;
+    match k {
+        Kind::Process => Form::Direct,
+        Kind::Scripted => Form::Passing,
+        Kind::Internal => Form::Bare,
+    }
+}
+
 // The services that one depends on by depends-on or depends-ms.
 pub fn strong_links(v: Settings) -> u64
     ensures { λ m. ⌜ m ≡ strongOf v ⌝ }
@@ -250,6 +292,42 @@ impl Record {
             restarts: 0,
         }
     }
+}
+
+// The record with another phase, cause and deadline. A change of a record is made by this function and by storing to its other fields, so
+// that all its fields are named in few places.
+pub fn moved(p: Phase, c: Cause, d: Deadline, r: Record) -> Record
+    ensures { λ q. ⌜ q ≡ moved p c d r ⌝ }
+{
+    Record {
+        phase: p,
+        cause: c,
+        wanted: r.wanted,
+        aside: r.aside,
+        live: r.live,
+        killed: r.killed,
+        not_before: r.not_before,
+        last_launch: r.last_launch,
+        window_start: r.window_start,
+        restarts: r.restarts,
+        deadline: d,
+    }
+}
+
+pub fn with_phase(p: Phase, r: Record) -> Record
+    ensures { λ q. ⌜ q ≡ withPhase p r ⌝ }
+{
+    let c = r.cause;
+    let d = r.deadline;
+    moved(p, c, d, r)
+}
+
+pub fn with_cause(c: Cause, r: Record) -> Record
+    ensures { λ q. ⌜ q ≡ withCause c r ⌝ }
+{
+    let p = r.phase;
+    let d = r.deadline;
+    moved(p, c, d, r)
 }
 
 impl State {

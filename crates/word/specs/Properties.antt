@@ -6,7 +6,7 @@ use lib.Dec.{eqb, leb}
 use Rattle.base.specs.Folds.{pick}
 use Rattle.text.specs.Strings.{bytes, indexFrom}
 use Rattle.service.specs.Limits.{defaultDelay, defaultInterval, defaultLimit, defaultStartTimeout, defaultStopTimeout}
-use Rattle.service.specs.Numbers.{signalPlace}
+use Rattle.service.specs.Numbers.{signalNumber}
 use Rattle.service.specs.declared.Signal.the-variants.{Term}
 use Rattle.word.specs.declared.Setting.{Setting}
 use Rattle.word.specs.declared.Setting.the-variants.{Bad}
@@ -66,4 +66,4 @@ settingOf p w =
 abbrev pub defaults : List ℕ
 defaults =
     0 ∷ 0 ∷ 0 ∷ 0 ∷ 0 ∷ defaultDelay ∷ defaultInterval ∷ defaultLimit ∷ defaultStartTimeout ∷ defaultStopTimeout ∷
-    0 ∷ 0 ∷ 0 ∷ signalPlace Term ∷ []
+    0 ∷ 0 ∷ 0 ∷ signalNumber Term ∷ []
