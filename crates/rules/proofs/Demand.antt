@@ -12,12 +12,12 @@ use Rattle.rules.specs.Calls.{Call, afterCalls, check, clock, outcome, s
 use Rattle.rules.specs.Demand.{Demand3, NoZeroTimeout, Now, Round, Rounds, Stretch, WoundDown, another, call, empty, freshNow, no-rounds, nowAfter, nowAt, round, wound}
 use Rattle.rules.specs.Events.{afterStopAll}
 use Rattle.rules.specs.WellFormed.{tableFormed}
-use Rattle.rules.proofs.Halting.{since-begins}
 use Rattle.rules.proofs.Formed.{sound-formed}
 use Rattle.rules.proofs.Links.{TableSound, table-sound}
 use Rattle.rules.proofs.Resting.{always-rests}
-use Rattle.rules.proofs.Rounds.{HaltingSince, Reached, all-down, halt-stretch, fresh-reached, quiet-stretch, reached-call}
-use Rattle.rules.proofs.Safety.{always-safe}
+use Rattle.rules.proofs.Rounds.{HaltingSince, Reached, all-down, halt-stretch, fresh-reached, reached-call}
+use Rattle.rules.proofs.Safety.{always-live, always-safe}
+use Rattle.rules.proofs.Since.{since-begins}
 
 append-calls : (t : Table) (x : State) (a b : List Call) → afterCalls t x (a ++ b) ≡ afterCalls t (afterCalls t x a) b
 unfolding afterCalls
@@ -48,7 +48,7 @@ module _ (t : Table) (tf : tableFormed t ≡ true) (nz : NoZeroTimeout t) where
   round-stretch (round c sa acc past sb q sd rep q′) =
       stretch-append t sa
       (call (clock c) refl
-      (stretch-append t sb (stretch-append t (quiet-stretch t tf ts nz q) (stretch-append t sd (quiet-stretch t tf ts nz q′)))))
+      (stretch-append t sb (stretch-append t (q .calls) (stretch-append t sd (q′ .calls)))))
 
   rounds-stretch : {k : ℕ} {n n′ : Now} {cs : List Call} → Rounds t k n cs n′ → Stretch t n cs n′
   rounds-stretch no-rounds = empty
@@ -62,11 +62,11 @@ module _ (t : Table) (tf : tableFormed t ≡ true) (nz : NoZeroTimeout t) where
   -- a stop all is accepted wherever a list has come to, and sets all on the way down
   stop-state : (n : Now) → Reached t tf ts nz n → nowAfter t n stopAll .state ≡ afterStopAll t (n .state)
   unfolding nowAfter outcome check
-  stop-state n h = rw (sound-formed t (n .state) tf (h .good .kept .sound))
+  stop-state n h = rw (sound-formed t (n .state) tf (h .good .sound))
 
   stop-halt : (n : Now) → Reached t tf ts nz n → HaltingSince t tf ts nz (nowAfter t n stopAll .state) (nowAfter t n stopAll)
   stop-halt n h = record {
-    since = rw (stop-state n h) (since-begins t (ts .few) (n .state) (h .timed .sized));
+    since = rw (stop-state n h) (since-begins t ts (n .state) (h .good .sound));
     reached = reached-call t tf ts nz n h stopAll;
   }
 
@@ -90,6 +90,7 @@ module _ (t : Table) (tf : tableFormed t ≡ true) (nz : NoZeroTimeout t) where
 pub demand3 : Demand3
 demand3 t tf cs = record {
   safe = always-safe t tf cs;
+  live = always-live t tf cs;
   rests = always-rests t tf cs;
   down = λ nz w s l. wound-down t tf nz w s l;
 }

@@ -27,8 +27,8 @@ use Rattle.service.specs.declared.Settings.{Settings}
 use Rattle.service.specs.declared.State.{State}
 use Rattle.service.specs.declared.Table.{Table}
 use Rattle.service.proofs.States.{Sized, fresh-clock, fresh-record, fresh-sized, sized-with, with-all}
-use Rattle.rules.specs.Calls.{Call, afterCalls, outcome}
-use Rattle.rules.specs.Demand.{AlwaysFormed}
+use Rattle.rules.specs.Calls.{Call, afterCalls}
+use Rattle.rules.specs.Demand.{AlwaysFormed, Moment}
 use Rattle.rules.specs.Events.{afterClock, afterEnd, afterStart, afterStop, afterStopAll, brings, dead, each, endedAs, revivedCause, startReaches, startedAs, stopped}
 use Rattle.rules.specs.Rules.{begunDeadline, deadlineIn, fits, leaves, lostToUser, nextAction}
 use Rattle.rules.specs.Settling.{countNow, limitReached, settledAs, settledCount, settledNotBefore, settledWindow, windowNow, windowOver}
@@ -37,11 +37,10 @@ use Rattle.rules.specs.declared.Rule.{Rule}
 use Rattle.rules.specs.declared.Rule.the-variants.{Abandon, Begin, End, Expire, Lose, Release, Settle, Wake}
 use Rattle.rules.proofs.Each.{each-below, each-clock, each-sized}
 use Rattle.rules.proofs.Fitting.{abandon-fits, begin-fits, end-fits, expire-fits, lose-fits, release-fits, settle-fits, wake-fits}
-use Rattle.rules.proofs.Keeps.{call-keeps, calls-keep}
 use Rattle.rules.proofs.Links.{TableSound, table-sound}
-use Rattle.rules.proofs.Next.{next-keeps}
-use Rattle.rules.proofs.Rest.{acts}
+use Rattle.rules.proofs.Next.{Fires, next-keeps}
 use Rattle.rules.proofs.Shapes.{abandon-shaped, begin-shaped, dead-shaped, expire-shaped, fell-shaped, lose-shaped, release-shaped, settle-shaped, start-shaped, started-shaped, stop-shaped, wake-shaped}
+use Rattle.rules.proofs.Steps.{Taken, acts, clocks, ends, starts, stops, stops-all, story-walk, walk-keeps}
 
 -- what the list says of a record's numbers
 pub record Timely (now : ℕ) (r : Record) : Type 0 where
@@ -290,14 +289,15 @@ module _ (t : Table) (ts : TableSound t) where
         (λ i q. shaped (formOf (settingsAt t i)) (q .phase) (q .live) (q .cause) ≡ true) (λ i il _. h .shapes i il) o;
   }
 
-  pub sound-rule : (x : State) (k : Rule) (s : ℕ) → Sound t x → s < t .count → fits k t x s ≡ true → Sound t (withRecord x s (leaves k t x s))
-  sound-rule x k s h l f =
+  pub sound-rule : (x : State) (k : Rule) (s : ℕ) → Sound t x → Fires t x k s → Sound t (withRecord x s (leaves k t x s))
+  sound-rule x k s h f =
+      let l = f .lowest .bound in
       sound-with x s (leaves k t x s) h l
       (leaves-timely t x s k (h .clock) (settings-ranged s l) (h .times s l))
-      (leaves-shaped t x s k (h .shapes s l) f)
+      (leaves-shaped t x s k (h .shapes s l) (f .lowest .passes))
 
   pub sound-next : (x : State) → Sound t x → Sound t (nextAction t x .state)
-  sound-next x h = next-keeps t x (Sound t) h (λ k s l f. sound-rule x k s h l f)
+  sound-next x h = next-keeps t x (Sound t) h (λ k s f. sound-rule x k s h f)
 
   sound-each : (x : State) (f : ℕ → Record → Record) → ((e : ℕ) (r : Record) → Timely (x .clock) r → Timely (x .clock) (f e r))
       → ((e : ℕ) (r : Record) → shaped (formOf (settingsAt t e)) (r .phase) (r .live) (r .cause) ≡ true → shaped (formOf (settingsAt t e)) (f e r .phase) (f e r .live) (f e r .cause) ≡ true)
@@ -379,17 +379,14 @@ module _ (t : Table) (ts : TableSound t) where
     shapes = h .shapes;
   }
 
-  pub sound-call : (x : State) → Sound t x → (c : Call) → Sound t (outcome t x c .state)
-  sound-call x h c =
-      call-keeps (Sound t) t x h c
-      record {
-        starts = λ _ s _. sound-start x s h;
-        stops = λ s l. sound-stop x s l h;
-        stopsAll = sound-stop-all x h;
-        ends = λ s good l _. sound-end x s good l h;
-        clocks = λ n l m. sound-clock x n l m h;
-        acts = sound-next;
-      }
+  -- every step keeps it
+  pub sound-step : (b : Bool) (m : Moment) → Taken t b m → Sound t (m .before) → Sound t (m .after)
+  sound-step b m (acts {x}) h = sound-next x h
+  sound-step b m (starts {x} s e l) h = sound-start x s h
+  sound-step b m (stops {x} s l) h = sound-stop x s l h
+  sound-step b m (stops-all {x}) h = sound-stop-all x h
+  sound-step b m (ends {x} s good l lives) h = sound-end x s good l h
+  sound-step b m (clocks {x} n l k) h = sound-clock x n l k h
 
   pub fresh-sound : Sound t freshState
   unfolding shapedAt
@@ -401,7 +398,7 @@ module _ (t : Table) (ts : TableSound t) where
   }
 
   pub sound-calls : (cs : List Call) → Sound t (afterCalls t freshState cs)
-  sound-calls cs = calls-keep (Sound t) t sound-call freshState fresh-sound cs
+  sound-calls cs = walk-keeps (Taken t true) (Sound t) (sound-step true) (story-walk t cs freshState) fresh-sound
 
 -- ---- in the words of the list
 

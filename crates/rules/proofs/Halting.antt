@@ -1,14 +1,12 @@
 -- After a stop all, and while no start is accepted, every service is down and aside, or active by the user's will; so what is
 -- down stays down, nothing comes to be starting, and what is ending stays ending with its deadline or goes down.
-use Prim.Native.Nat.{_<_, _≤_, ℕ}
+use Prim.Native.Nat.{ℕ}
 use mathlib.Core.Bool.{Bool, _&&_, _||_, false, not, true}
 use mathlib.Core.Logic.{_⊎_, inl, inr}
 use mathlib.Core.Path.{_∙_, _≡_, refl}
-use native.Mathlib.Nat.{le-refl, le-trans}
 use Rattle.base.specs.Folds.{pick}
-use Rattle.base.proofs.Tests.{either, no-ft, not-both, not-true}
-use Rattle.service.specs.Limits.{maxServices}
-use Rattle.service.specs.Records.{active, isDown, isEnding, isNone, isStarting, isUp, isUser, isWaiting, recordAt, withRecord}
+use Rattle.base.proofs.Tests.{either, no-ft, not-true}
+use Rattle.service.specs.Records.{active, isDown, isEnding, isNone, isStarting, isUp, isUser, isWaiting, recordAt}
 use Rattle.service.specs.Settings.{settingsAt}
 use Rattle.service.specs.declared.Cause.{Cause}
 use Rattle.service.specs.declared.Cause.the-variants.{Failed, Fell, User}
@@ -19,18 +17,11 @@ use Rattle.service.specs.declared.State.{State}
 use Rattle.service.specs.declared.Table.{Table}
 use Rattle.service.proofs.Finite.{bools, causes, finite, given, phases}
 use Rattle.service.proofs.Named.{is-ending, is-up, is-user}
-use Rattle.service.proofs.States.{Sized, sized-with, with-all}
-use Rattle.rules.specs.Calls.{Call, outcome}
-use Rattle.rules.specs.Demand.{accepted, isStart}
-use Rattle.rules.specs.Events.{afterClock, afterEnd, afterStop, afterStopAll, brings, endedAs, stopped, stoppedPhase}
+use Rattle.rules.specs.Events.{endedAs, stopped, stoppedPhase}
 use Rattle.rules.specs.Rules.{fits, leaves}
 use Rattle.rules.specs.declared.Rule.{Rule}
 use Rattle.rules.specs.declared.Rule.the-variants.{Abandon, Begin, End, Expire, Lose, Release, Settle, Wake}
-use Rattle.rules.proofs.Each.{each-below, each-clock, each-sized}
 use Rattle.rules.proofs.Fitting.{abandon-fits, begin-fits, end-fits, expire-fits, lose-fits, release-fits, settle-fits, wake-fits}
-use Rattle.rules.proofs.Keeps.{call-keeps}
-use Rattle.rules.proofs.Next.{next-keeps}
-use Rattle.rules.proofs.Rest.{acts}
 use Rattle.rules.proofs.Shapes.{expire-active, up-active}
 
 abbrev pub halting : Phase → Bool → Bool → Cause → Bool
@@ -154,10 +145,10 @@ pub record Goes (r r′ : Record) : Type 0 where
   pub starting : isStarting (r′ .phase) ≡ true → (isStarting (r .phase) ≡ true) × (r′ .deadline ≡ r .deadline)
   pub ending : isEnding (r .phase) ≡ true → (isDown (r′ .phase) ≡ true) ⊎ ((isEnding (r′ .phase) ≡ true) × (r′ .deadline ≡ r .deadline))
 
-goes-refl : (r : Record) → Goes r r
+pub goes-refl : (r : Record) → Goes r r
 goes-refl r = record { down = λ d. d; starting = λ s. (s, refl); ending = λ e. inr (e, refl) }
 
-goes-trans : (a b c : Record) → Goes a b → Goes b c → Goes a c
+pub goes-trans : (a b c : Record) → Goes a b → Goes b c → Goes a c
 goes-trans a b c g h = record {
   down = λ d. h .down (g .down d);
   starting = λ s. let k = h .starting s in let m = g .starting (k .0) in (m .0, k .1 ∙ m .1);
@@ -165,122 +156,64 @@ goes-trans a b c g h = record {
       λ e. either (g .ending e) (λ d. inl (h .down d)) (λ k. either (h .ending (k .0)) (λ d. inl d) (λ m. inr (m .0, m .1 ∙ k .1)));
 }
 
--- where things have come to from x₀
-pub record Since (t : Table) (x₀ x : State) : Type 0 where
-  pub sized : Sized x
-  pub halting : (s : ℕ) → s < t .count → haltingAt (recordAt x s) ≡ true
-  pub clocks : x₀ .clock ≤ x .clock
-  pub goes : (s : ℕ) → s < t .count → Goes (recordAt x₀ s) (recordAt x s)
-
-stop-goes : (r : Record) → Goes r (stopped r)
+pub stop-goes : (r : Record) → Goes r (stopped r)
 stop-goes r = record {
   down = stopped-down (r .phase);
   starting = λ e. (stopped-starting (r .phase) e, refl);
   ending = λ e. inr (stopped-ending (r .phase) e, refl);
 }
 
-module _ (t : Table) (few : t .count ≤ maxServices) where
-  module _ (x : State) (s : ℕ) (d : haltingAt (recordAt x s) ≡ true) where
-    user : active (recordAt x s .phase) ≡ true → recordAt x s .cause ≡ User
-    user a = is-user (recordAt x s .cause) (halting-user (recordAt x s .phase) (recordAt x s .aside) (recordAt x s .wanted) (recordAt x s .cause) d a)
+module _ (t : Table) (x : State) (s : ℕ) (d : haltingAt (recordAt x s) ≡ true) where
+  user : active (recordAt x s .phase) ≡ true → recordAt x s .cause ≡ User
+  user a = is-user (recordAt x s .cause) (halting-user (recordAt x s .phase) (recordAt x s .aside) (recordAt x s .wanted) (recordAt x s .cause) d a)
 
-    leaves-halting : (k : Rule) → fits k t x s ≡ true → (haltingAt (leaves k t x s) ≡ true) × Goes (recordAt x s) (leaves k t x s)
-    unfolding leaves
-    leaves-halting Lose f =
-        let m = lose-fits t x s .0 f in
-        no-ft (halting-runs-not (recordAt x s .phase) (recordAt x s .aside) (recordAt x s .wanted) (recordAt x s .cause) d (m .on) (m .nil))
-    leaves-halting Abandon f =
-        no-ft (halting-waits-not (recordAt x s .phase) (recordAt x s .aside) (recordAt x s .wanted) (recordAt x s .cause) d (abandon-fits t x s .0 f .waits))
-    leaves-halting Settle f =
-        let m = settle-fits t x s .0 f in
-        (rw (user (up-active (recordAt x s .phase) (m .up))), record { down = λ _. refl; starting = λ e. no-ft e; ending = λ _. inl refl })
-    leaves-halting Wake f =
-        let m = wake-fits t x s .0 f in
-        no-ft (halting-wakes-not (recordAt x s .phase) (recordAt x s .aside) (recordAt x s .wanted) (recordAt x s .cause) d (m .down) (not-true _ .1 (m .aside)))
-    leaves-halting Release f =
-        let m = release-fits t x s .0 f in
-        no-ft (halting-released-not (recordAt x s .phase) (recordAt x s .aside) (recordAt x s .wanted) (recordAt x s .cause) d (m .on) (m .nil))
-    leaves-halting Begin f =
-        no-ft (halting-waits-not (recordAt x s .phase) (recordAt x s .aside) (recordAt x s .wanted) (recordAt x s .cause) d (begin-fits t x s .0 f .waits))
-    leaves-halting End f =
-        let m = end-fits t x s .0 f in
-        let up : recordAt x s .phase ≡ Up = is-up (recordAt x s .phase) (m .up) in (
-          end-halting (recordAt x s .phase) (recordAt x s .aside) (recordAt x s .wanted) (recordAt x s .cause) d (m .up),
-          record { down = λ e. no-ft (rw up at e); starting = λ e. no-ft e; ending = λ e. no-ft (rw up at e) },
-        )
-    leaves-halting Expire f =
-        let m = expire-fits t x s .0 f in (
-          expire-halting (recordAt x s .phase) (recordAt x s .aside) (recordAt x s .wanted) (recordAt x s .cause) d
-              (expire-active (recordAt x s .phase) (not (recordAt x s .killed)) (m .which)),
-          record {
-            down = λ e. no-ft (expire-not-down (recordAt x s .phase) (not (recordAt x s .killed)) (m .which) e);
-            starting = λ e. no-ft e;
-            ending = λ e. inr (refl, rw (is-ending (recordAt x s .phase) e));
-          },
-        )
+  pub leaves-halting : (k : Rule) → fits k t x s ≡ true → (haltingAt (leaves k t x s) ≡ true) × Goes (recordAt x s) (leaves k t x s)
+  unfolding leaves
+  leaves-halting Lose f =
+      let m = lose-fits t x s .0 f in
+      no-ft (halting-runs-not (recordAt x s .phase) (recordAt x s .aside) (recordAt x s .wanted) (recordAt x s .cause) d (m .on) (m .nil))
+  leaves-halting Abandon f =
+      no-ft (halting-waits-not (recordAt x s .phase) (recordAt x s .aside) (recordAt x s .wanted) (recordAt x s .cause) d (abandon-fits t x s .0 f .waits))
+  leaves-halting Settle f =
+      let m = settle-fits t x s .0 f in
+      (rw (user (up-active (recordAt x s .phase) (m .up))), record { down = λ _. refl; starting = λ e. no-ft e; ending = λ _. inl refl })
+  leaves-halting Wake f =
+      let m = wake-fits t x s .0 f in
+      no-ft (halting-wakes-not (recordAt x s .phase) (recordAt x s .aside) (recordAt x s .wanted) (recordAt x s .cause) d (m .down) (not-true _ .1 (m .aside)))
+  leaves-halting Release f =
+      let m = release-fits t x s .0 f in
+      no-ft (halting-released-not (recordAt x s .phase) (recordAt x s .aside) (recordAt x s .wanted) (recordAt x s .cause) d (m .on) (m .nil))
+  leaves-halting Begin f =
+      no-ft (halting-waits-not (recordAt x s .phase) (recordAt x s .aside) (recordAt x s .wanted) (recordAt x s .cause) d (begin-fits t x s .0 f .waits))
+  leaves-halting End f =
+      let m = end-fits t x s .0 f in
+      let up : recordAt x s .phase ≡ Up = is-up (recordAt x s .phase) (m .up) in (
+        end-halting (recordAt x s .phase) (recordAt x s .aside) (recordAt x s .wanted) (recordAt x s .cause) d (m .up),
+        record { down = λ e. no-ft (rw up at e); starting = λ e. no-ft e; ending = λ e. no-ft (rw up at e) },
+      )
+  leaves-halting Expire f =
+      let m = expire-fits t x s .0 f in (
+        expire-halting (recordAt x s .phase) (recordAt x s .aside) (recordAt x s .wanted) (recordAt x s .cause) d
+            (expire-active (recordAt x s .phase) (not (recordAt x s .killed)) (m .which)),
+        record {
+          down = λ e. no-ft (expire-not-down (recordAt x s .phase) (not (recordAt x s .killed)) (m .which) e);
+          starting = λ e. no-ft e;
+          ending = λ e. inr (refl, rw (is-ending (recordAt x s .phase) e));
+        },
+      )
 
-    ended-halting : (good : Bool) (p : Phase) → recordAt x s .phase ≡ p
-        → (haltingAt (endedAs p (settingsAt t s) (x .clock) good (recordAt x s)) ≡ true) × Goes (recordAt x s) (endedAs p (settingsAt t s) (x .clock) good (recordAt x s))
-    unfolding endedAs
-    ended-halting good Down e = (d, record { down = λ y. y; starting = λ y. (y, refl); ending = λ y. inr (y, refl) })
-    ended-halting good Waiting e = (d, record { down = λ y. y; starting = λ y. (y, refl); ending = λ y. inr (y, refl) })
-    ended-halting true Starting e = (
-      started-halting (recordAt x s .phase) (recordAt x s .aside) (recordAt x s .wanted) (recordAt x s .cause) d (rw e),
-      record { down = λ y. no-ft (rw e at y); starting = λ y. no-ft y; ending = λ y. no-ft (rw e at y) },
-    )
-    ended-halting false Starting e = (refl, record { down = λ _. refl; starting = λ y. no-ft y; ending = λ _. inl refl })
-    ended-halting good Up e = (
-      fell-halting (recordAt x s .phase) (recordAt x s .aside) (recordAt x s .wanted) (recordAt x s .cause) d (rw e),
-      record { down = λ y. y; starting = λ y. (y, refl); ending = λ y. inr (y, refl) },
-    )
-    ended-halting good Ending e = (rw (user (rw e)), record { down = λ _. refl; starting = λ y. no-ft y; ending = λ _. inl refl })
-
-  since-with : (x₀ x : State) (s : ℕ) (r : Record) → Since t x₀ x → s < t .count → haltingAt r ≡ true → Goes (recordAt x s) r → Since t x₀ (withRecord x s r)
-  since-with x₀ x s r h l d g = record {
-    sized = sized-with x s r (h .sized);
-    halting = with-all x s r (h .sized) (le-trans l few) (t .count) (λ i q. haltingAt q ≡ true) (λ i il _. h .halting i il) d;
-    clocks = unfold withRecord in h .clocks;
-    goes =
-        with-all x s r (h .sized) (le-trans l few) (t .count) (λ i q. Goes (recordAt x₀ i) q) (λ i il _. h .goes i il)
-        (goes-trans (recordAt x₀ s) (recordAt x s) r (h .goes s l) g);
-  }
-
-  all-stopped : (x : State) → Sized x → (e : ℕ) → e < t .count → recordAt (afterStopAll t x) e ≡ stopped (recordAt x e)
-  unfolding afterStopAll
-  all-stopped x z e el = each-below (λ d r. stopped r) x (t .count) z few e el
-
-  since-all : (x₀ x : State) → Since t x₀ x → Since t x₀ (afterStopAll t x)
-  since-all x₀ x h = record {
-    sized = unfold afterStopAll in each-sized _ x (t .count) (h .sized);
-    halting = λ e el. rw (all-stopped x (h .sized) e el) (stop-halting (recordAt x e .phase) (recordAt x e .aside) (recordAt x e .cause));
-    clocks = unfold afterStopAll in rw (each-clock (λ d r. stopped r) x (t .count)) (h .clocks);
-    goes = λ e el. rw (all-stopped x (h .sized) e el) (goes-trans (recordAt x₀ e) (recordAt x e) (stopped (recordAt x e)) (h .goes e el) (stop-goes (recordAt x e)));
-  }
-
-  pub since-call : (x₀ x : State) (c : Call) → (isStart c && accepted t x c) ≡ false → Since t x₀ x → Since t x₀ (outcome t x c .state)
-  since-call x₀ x c b h =
-      call-keeps (Since t x₀) t x h c
-      record {
-        starts = λ y. absurd (not-both y b);
-        stops =
-            λ s l. unfold afterStop in since-with x₀ x s _ h l (stop-halting (recordAt x s .phase) (recordAt x s .aside) (recordAt x s .cause)) (stop-goes (recordAt x s));
-        stopsAll = since-all x₀ x h;
-        ends =
-            λ s good l _. unfold afterEnd in let k = ended-halting x s (h .halting s l) (brings (settingsAt t s) good) (recordAt x s .phase) refl in since-with x₀ x s _ h l (k .0) (k .1);
-        clocks = λ n l _. unfold afterClock in unfold recordAt in record { sized = h .sized; halting = h .halting; clocks = le-trans (h .clocks) l; goes = h .goes };
-        acts =
-            λ y p. next-keeps t y (Since t x₀) p (λ k s l f. let q = leaves-halting y s (p .halting s l) k f in since-with x₀ y s _ p l (q .0) (q .1));
-      }
-
-  -- what holds since x₀ holds since x
-  pub since-here : (x₀ x : State) → Since t x₀ x → Since t x x
-  since-here x₀ x h = record { sized = h .sized; halting = h .halting; clocks = le-refl (x .clock); goes = λ s l. goes-refl (recordAt x s) }
-
-  -- a stop all sets it off
-  pub since-begins : (x : State) → Sized x → Since t (afterStopAll t x) (afterStopAll t x)
-  since-begins x z = record {
-    sized = unfold afterStopAll in each-sized _ x (t .count) z;
-    halting = λ e el. rw (all-stopped x z e el) (stop-halting (recordAt x e .phase) (recordAt x e .aside) (recordAt x e .cause));
-    clocks = le-refl _;
-    goes = λ s l. goes-refl _;
-  }
+  pub ended-halting : (good : Bool) (p : Phase) → recordAt x s .phase ≡ p
+      → (haltingAt (endedAs p (settingsAt t s) (x .clock) good (recordAt x s)) ≡ true) × Goes (recordAt x s) (endedAs p (settingsAt t s) (x .clock) good (recordAt x s))
+  unfolding endedAs
+  ended-halting good Down e = (d, record { down = λ y. y; starting = λ y. (y, refl); ending = λ y. inr (y, refl) })
+  ended-halting good Waiting e = (d, record { down = λ y. y; starting = λ y. (y, refl); ending = λ y. inr (y, refl) })
+  ended-halting true Starting e = (
+    started-halting (recordAt x s .phase) (recordAt x s .aside) (recordAt x s .wanted) (recordAt x s .cause) d (rw e),
+    record { down = λ y. no-ft (rw e at y); starting = λ y. no-ft y; ending = λ y. no-ft (rw e at y) },
+  )
+  ended-halting false Starting e = (refl, record { down = λ _. refl; starting = λ y. no-ft y; ending = λ _. inl refl })
+  ended-halting good Up e = (
+    fell-halting (recordAt x s .phase) (recordAt x s .aside) (recordAt x s .wanted) (recordAt x s .cause) d (rw e),
+    record { down = λ y. y; starting = λ y. (y, refl); ending = λ y. inr (y, refl) },
+  )
+  ended-halting good Ending e = (rw (user (rw e)), record { down = λ _. refl; starting = λ y. no-ft y; ending = λ _. inl refl })

@@ -121,11 +121,11 @@ module _ (t : Table) (x : State) where
       go c e (rule k s l b) = inr (k, s, record { lowest = l; before = b; chooses = e; does = ap (λ (y : Choice). actOn y t x) e })
 
   -- whatever a quiet state and each rule keep, the next action keeps
-  pub next-keeps : (P : State → Type 0) → P x → ((k : Rule) (s : ℕ) → s < t .count → fits k t x s ≡ true → P (withRecord x s (leaves k t x s)))
+  pub next-keeps : (P : State → Type 0) → P x → ((k : Rule) (s : ℕ) → Fires k s → P (withRecord x s (leaves k t x s)))
       → P (nextAction t x .state)
   unfolding act
   next-keeps P p h =
       either
       next-either
       (λ q. rw (q .does) p)
-      (λ q. rw (q .2 .does) (h (q .0) (q .1) (q .2 .lowest .bound) (q .2 .lowest .passes)))
+      (λ q. rw (q .2 .does) (h (q .0) (q .1) (q .2)))

@@ -1,43 +1,36 @@
--- The record of launches, stop commands and reported ends is the set of the services whose live flag is on, and whenever an
--- action is handed out for a service, nothing that hard-depends on it is in the record.
+-- What a step does to the record of launches, stop commands and reported ends: it goes on telling the live flag of each service. And an
+-- action is handed out only for a service on which nothing active hard-depends.
 use Prim.Native.Nat.{_<_, ℕ}
 use borrow.Author.Tests.{eq-eqb, ne-eqb}
 use lib.Dec.{lit<}
 use mathlib.Core.Bool.{Bool, false, not, true}
-use mathlib.Core.Logic.{_≢_}
-use mathlib.Core.Path.{_∙_, _≡_, refl, sym}
-use native.Mathlib.Nat.{le-trans}
+use mathlib.Core.Logic.{_≢_, _⊎_, inl, inr}
+use mathlib.Core.Path.{_∙_, _≡_, refl, subst, sym}
 use Rattle.base.specs.Folds.{pick}
-use Rattle.base.specs.Links.{Path, link, on}
-use Rattle.base.proofs.Tests.{either, no-ft, not-both, not-true, refute}
-use Rattle.service.specs.Records.{active, isStarting, isUp, recordAt, withRecord}
+use Rattle.base.proofs.Tests.{not-both, not-true, refute}
+use Rattle.service.specs.Records.{isStarting, isUp, recordAt}
 use Rattle.service.specs.Settings.{formOf, settingsAt, isPassing}
 use Rattle.service.specs.declared.Action.{Action}
 use Rattle.service.specs.declared.Action.the-variants.{Launch, Moved, Quiet, Signal, StopCommand}
 use Rattle.service.specs.declared.Form.{Form}
 use Rattle.service.specs.declared.Form.the-variants.{Bare, Passing, Direct, Delayed}
+use Rattle.service.specs.declared.Phase.{Phase}
+use Rattle.service.specs.declared.Phase.the-variants.{Down, Ending, Starting, Up, Waiting}
 use Rattle.service.specs.declared.Signal.{Signal as SignalName}
 use Rattle.service.specs.declared.Signal.the-variants.{Hup, Int, Kill, None as NoSignal, Quit, Term, Usr1, Usr2}
 use Rattle.service.specs.declared.State.{State}
 use Rattle.service.specs.declared.Table.{Table}
 use Rattle.service.proofs.Named.{is-waiting}
-use Rattle.service.proofs.States.{with-all}
-use Rattle.rules.specs.Demand.{ActsOn, Clear, Set, handed, recorded, with, without}
-use Rattle.rules.specs.Dependencies.{hard, hardLinks}
-use Rattle.rules.specs.Rules.{act, begunAction, begunLive, endAction, fits, hands, leaves, nextAction, nothingToEnd, termAction}
+use Rattle.rules.specs.Demand.{ActsOn, Mark, Set, began, ended, handed, passed, recordedBy, with, without}
+use Rattle.rules.specs.Events.{endedAs}
+use Rattle.rules.specs.Rules.{begunAction, begunLive, endAction, fits, hands, leaves, nothingToEnd, termAction}
 use Rattle.rules.specs.WellFormed.{shapedAt}
 use Rattle.rules.specs.declared.Rule.{Rule}
 use Rattle.rules.specs.declared.Rule.the-variants.{Abandon, Begin, End, Expire, Lose, Release, Settle, Wake}
 use Rattle.rules.proofs.Fitting.{begin-fits, end-fits, expire-fits, settle-fits}
-use Rattle.rules.proofs.Held.{Held, Kept, kept-rule, unblocked}
-use Rattle.rules.proofs.Links.{TableSound, hard-inside}
-use Rattle.rules.proofs.Next.{Before, next-either, place}
-use Rattle.rules.proofs.Shapes.{end-lives, expire-not-up, inactive-dead, up-active}
-
-module _ (t : Table) (ts : TableSound t) where
-  pub record Good (v : Set) (x : State) : Type 0 where
-    pub kept : Kept t ts x
-    pub same : (s : ℕ) → s < t .count → v s ≡ recordAt x s .live
+use Rattle.rules.proofs.Held.{Unblocked, unblocked}
+use Rattle.rules.proofs.Next.{Before, Fires, place}
+use Rattle.rules.proofs.Shapes.{end-lives, expire-not-up}
 
 -- ---- what an action does to the record
 
@@ -53,7 +46,7 @@ without-out s v = rw (eq-eqb s s refl)
 pub without-others : (s e : ℕ) (v : Set) → e ≢ s → without s v e ≡ v e
 without-others s e v q = rw (ne-eqb e s q)
 
-begun-in : (k : Form) (v : Set) (s : ℕ) (b l : Bool) → v s ≡ l → recorded (handed (begunAction k s) b) v s ≡ begunLive k l
+begun-in : (k : Form) (v : Set) (s : ℕ) (b l : Bool) → v s ≡ l → recordedBy (handed (begunAction k s) b) v s ≡ begunLive k l
 begun-in Bare v s b l h = h
 begun-in Passing v s b l h = with-in s v
 begun-in Direct v s b l h = with-in s v
@@ -66,7 +59,7 @@ begun-on Direct s i q = q
 begun-on Delayed s i q = q
 
 -- a signal, or none, leaves the record
-term-leaves : (g : SignalName) (s : ℕ) (b : Bool) (v : Set) → recorded (handed (termAction g s) b) v ≡ v
+term-leaves : (g : SignalName) (s : ℕ) (b : Bool) (v : Set) → recordedBy (handed (termAction g s) b) v ≡ v
 term-leaves NoSignal s b v = refl
 term-leaves Hup s b v = refl
 term-leaves Int s b v = refl
@@ -86,7 +79,7 @@ term-on Usr1 s i q = q
 term-on Usr2 s i q = q
 term-on Kill s i q = q
 
-end-in : (k : Form) (g : SignalName) (v : Set) (s : ℕ) (b : Bool) → (isPassing k ≡ false → v s ≡ true) → recorded (handed (endAction k g s) b) v s ≡ true
+end-in : (k : Form) (g : SignalName) (v : Set) (s : ℕ) (b : Bool) → (isPassing k ≡ false → v s ≡ true) → recordedBy (handed (endAction k g s) b) v s ≡ true
 end-in Bare g v s b h = h refl
 end-in Passing g v s b h = with-in s v
 end-in Direct g v s b h = rw (term-leaves g s b v) (h refl)
@@ -98,7 +91,7 @@ end-on Passing g s i q = q
 end-on Direct g s i q = term-on g s i q
 end-on Delayed g s i q = term-on g s i q
 
-expired-leaves : (a : Bool) (s : ℕ) (b : Bool) (v : Set) → recorded (handed (pick a (Signal s Int) (Signal s Kill)) b) v ≡ v
+expired-leaves : (a : Bool) (s : ℕ) (b : Bool) (v : Set) → recordedBy (handed (pick a (Signal s Int) (Signal s Kill)) b) v ≡ v
 expired-leaves true s b v = refl
 expired-leaves false s b v = refl
 
@@ -118,106 +111,85 @@ hands-on Begin t x s i q = begun-on (formOf (settingsAt t s)) s i q
 hands-on End t x s i q = end-on (formOf (settingsAt t s)) (settingsAt t s .signal) s i q
 hands-on Expire t x s i q = expired-on (isStarting (recordAt x s .phase)) s i q
 
--- an action leaves those in the record whom it does not act on
-recorded-others : (a : Action) (b : Bool) (v : Set) (e : ℕ) → (ActsOn a e → ⊥) → recorded (handed a b) v e ≡ v e
-recorded-others Quiet b v e n = refl
-recorded-others (Moved s) b v e n = refl
-recorded-others (Launch s) b v e n = with-others s e v (λ q. n (sym q))
-recorded-others (StopCommand s) b v e n = with-others s e v (λ q. n (sym q))
-recorded-others (Signal s g) b v e n = refl
+-- ---- whom a mark concerns
 
--- ---- along a chain of hard dependencies
+-- a service that an action is handed out for
+abbrev pub Acts : Mark → ℕ → Type 0
+Acts (handed a k) e = ActsOn a e
+Acts (ended s) e = ⊥
+Acts began e = ⊥
+Acts passed e = ⊥
 
-module _ (t : Table) (ts : TableSound t) (x : State) (inv : Held t x) where
-  -- what an active service hard-depends on, directly or through others, is up, and a direct dependent of it is active
-  chain : {e d : ℕ} → e < t .count → Path (hardLinks t) e d → active (recordAt x e .phase) ≡ true
-      → (isUp (recordAt x d .phase) ≡ true) × ((m : ℕ) × (m < t .count) × (hard t m d ≡ true) × (active (recordAt x m .phase) ≡ true))
-  unfolding hard
-  chain {e} {d} el (link h) a = let dl = hard-inside t ts e d el h in (inv e d el dl h a, (e, el, h, a))
-  chain {e} {d} el (on {k = k} h p) a =
-      let kl = hard-inside t ts e k el h in chain kl p (up-active (recordAt x k .phase) (inv e k el kl h a))
+-- or whose end is told
+abbrev pub Concerns : Mark → ℕ → Type 0
+Concerns (handed a k) e = ActsOn a e
+Concerns (ended s) e = s ≡ e
+Concerns began e = ⊥
+Concerns passed e = ⊥
 
-module _ (t : Table) (ts : TableSound t) (v : Set) (x : State) (g : Good t ts v x) where
-  -- a service that is neither starting, up nor ending is not in the record
-  absent : (e : ℕ) → e < t .count → (active (recordAt x e .phase) ≡ true → ⊥) → v e ≡ false
-  unfolding shapedAt
-  absent e el h =
-      g .same e el
-      ∙ not-true (recordAt x e .live) .0
-      (inactive-dead (formOf (settingsAt t e)) (recordAt x e .phase) (recordAt x e .live) (recordAt x e .cause) (g .kept .sound .shapes e el)
-      (not-true (active (recordAt x e .phase)) .1 (refute (active (recordAt x e .phase)) h)))
+-- the others stay in the record, or out of it
+pub recorded-others : (k : Mark) (v : Set) (e : ℕ) → (Concerns k e → ⊥) → recordedBy k v e ≡ v e
+recorded-others (handed Quiet b) v e n = refl
+recorded-others (handed (Moved s) b) v e n = refl
+recorded-others (handed (Launch s) b) v e n = with-others s e v (λ q. n (sym q))
+recorded-others (handed (StopCommand s) b) v e n = with-others s e v (λ q. n (sym q))
+recorded-others (handed (Signal s g) b) v e n = refl
+recorded-others (ended s) v e n = without-others s e v (λ q. n (sym q))
+recorded-others began v e n = refl
+recorded-others passed v e n = refl
 
-  module _ (s : ℕ) (l : s < t .count) where
-    -- nothing that hard-depends on s is active, so nothing that does is in the record
-    clear-of : ((e : ℕ) → e < t .count → Path (hardLinks t) e s → active (recordAt x e .phase) ≡ true → ⊥)
-        → (a : Action) (b : Bool) → ((i : ℕ) → ActsOn a i → s ≡ i) → Clear t v (handed a b)
-    clear-of h a b f i e q el p =
-        let p′ : Path (hardLinks t) e s = rw (f i q) p in
-        absent e el (h e el p′)
+-- ---- the record tells the live flag after the step where it told it before
 
-    pub rule-clear : (k : Rule) (b : Bool) → fits k t x s ≡ true → Clear t v (handed (hands k t x s) b)
-    unfolding hands
-    rule-clear Lose b f = λ i e q. absurd q
-    rule-clear Abandon b f = λ i e q. absurd q
-    rule-clear Settle b f = λ i e q. absurd q
-    rule-clear Wake b f = λ i e q. absurd q
-    rule-clear Release b f = λ i e q. absurd q
-    rule-clear Begin b f =
-        let m = begin-fits t x s .0 f in
-        clear-of (λ e el p a. no-ft (rw (is-waiting (recordAt x s .phase) (m .waits)) at (chain t ts x (g .kept .held) el p a .0)))
-        (hands Begin t x s) b (hands-on Begin t x s)
-    rule-clear End b f =
-        let m = end-fits t x s .0 f in
-        clear-of (λ e el p a. let c = chain t ts x (g .kept .held) el p a .1 in unblocked t x s .0 (m .unblocked) (c .0) (c .1) (c .2) (c .3))
-        (hands End t x s) b (hands-on End t x s)
-    rule-clear Expire b f =
-        let m = expire-fits t x s .0 f in
-        clear-of
-        (λ e el p a. not-both (chain t ts x (g .kept .held) el p a .0) (not-true _ .0 (expire-not-up (recordAt x s .phase) (not (recordAt x s .killed)) (m .which))))
-        (hands Expire t x s) b (hands-on Expire t x s)
+module _ (t : Table) (x : State) (s : ℕ) (v : Set) (same : v s ≡ recordAt x s .live) where
+  -- what rule 7 ends is not what rule 3 settles, which comes first
+  busy : s < t .count → fits End t x s ≡ true → Before t x (place End)
+      → nothingToEnd (formOf (settingsAt t s)) (settingsAt t s .«has_stop») (recordAt x s .live) ≡ false
+  busy l f b =
+      let m = end-fits t x s .0 f in
+      refute _
+      (λ i. not-both (settle-fits t x s .1 record { up = m .up; caused = m .caused; unblocked = m .unblocked; nothing = i }) (b Settle (lit< tt) s l))
 
-    -- what rule 7 ends is not what rule 3 settles, which comes first
-    busy : fits End t x s ≡ true → Before t x (place End) → nothingToEnd (formOf (settingsAt t s)) (settingsAt t s .«has_stop») (recordAt x s .live) ≡ false
-    busy f b =
-        let m = end-fits t x s .0 f in
-        refute _
-        (λ i. not-both (settle-fits t x s .1 record { up = m .up; caused = m .caused; unblocked = m .unblocked; nothing = i }) (b Settle (lit< tt) s l))
-
-    -- the record tells the live flag of s after the action
-    rule-same : (k : Rule) (b : Bool) → fits k t x s ≡ true → Before t x (place k) → recorded (handed (hands k t x s) b) v s ≡ leaves k t x s .live
-    unfolding hands leaves shapedAt
-    rule-same Lose b f n = g .same s l
-    rule-same Abandon b f n = g .same s l
-    rule-same Settle b f n = g .same s l
-    rule-same Wake b f n = g .same s l
-    rule-same Release b f n = g .same s l
-    rule-same Begin b f n = begun-in (formOf (settingsAt t s)) v s b (recordAt x s .live) (g .same s l)
-    rule-same End b f n =
-        let m = end-fits t x s .0 f in
-        end-in (formOf (settingsAt t s)) (settingsAt t s .signal) v s b
-        (λ q.
-        g .same s l
-        ∙ end-lives (formOf (settingsAt t s)) (recordAt x s .phase) (recordAt x s .live) (recordAt x s .cause) (settingsAt t s .«has_stop»)
-        (g .kept .sound .shapes s l) (m .up) (not-true _ .1 (busy f n)) (not-true _ .1 q))
-    rule-same Expire b f n = rw (expired-leaves (isStarting (recordAt x s .phase)) s b v) (g .same s l)
-
-    pub rule-good : (k : Rule) (b : Bool) → fits k t x s ≡ true → Before t x (place k)
-        → Good t ts (recorded (handed (hands k t x s) b) v) (withRecord x s (leaves k t x s))
-    rule-good k b f n = record {
-      kept = kept-rule t ts x k s (g .kept) l f;
-      same =
-          with-all x s (leaves k t x s) (g .kept .sound .sized) (le-trans l (ts .few)) (t .count)
-          (λ e r. recorded (handed (hands k t x s) b) v e ≡ r .live) (λ e el q. recorded-others (hands k t x s) b v e (λ a. q (sym (hands-on k t x s e a))) ∙ g .same e el) (rule-same k b f n);
-    }
-
-  -- the next action is clear, and leaves a good state
-  pub next-good : (b : Bool) → Clear t v (handed (nextAction t x .action) b) × Good t ts (recorded (handed (nextAction t x .action) b) v) (nextAction t x .state)
-  unfolding act
-  next-good b =
-      either
-      (next-either t x)
-      (λ q. rw (q .does) (λ i e a. absurd a, g))
+  pub rule-lives : (k : Rule) (b : Bool) → shapedAt t x s ≡ true → Fires t x k s → recordedBy (handed (hands k t x s) b) v s ≡ leaves k t x s .live
+  unfolding hands leaves shapedAt
+  rule-lives Lose b o f = same
+  rule-lives Abandon b o f = same
+  rule-lives Settle b o f = same
+  rule-lives Wake b o f = same
+  rule-lives Release b o f = same
+  rule-lives Begin b o f = begun-in (formOf (settingsAt t s)) v s b (recordAt x s .live) same
+  rule-lives End b o f =
+      let fit = f .lowest .passes in
+      let m = end-fits t x s .0 fit in
+      end-in (formOf (settingsAt t s)) (settingsAt t s .signal) v s b
       (λ q.
-      let f = q .2 in
-      let l = f .lowest .bound in
-      rw (f .does) (rule-clear (q .1) l (q .0) b (f .lowest .passes), rule-good (q .1) l (q .0) b (f .lowest .passes) (f .before)))
+      same
+      ∙ end-lives (formOf (settingsAt t s)) (recordAt x s .phase) (recordAt x s .live) (recordAt x s .cause) (settingsAt t s .«has_stop»)
+      o (m .up) (not-true _ .1 (busy (f .lowest .bound) fit (f .before))) (not-true _ .1 q))
+  rule-lives Expire b o f = rw (expired-leaves (isStarting (recordAt x s .phase)) s b v) same
+
+-- an end takes its service out, and turns its flag off
+pub end-dies : (t : Table) (x : State) (s : ℕ) (v : Set) (p : Phase) (b : Bool)
+    → recordedBy (ended s) v s ≡ endedAs p (settingsAt t s) (x .clock) b (recordAt x s) .live
+unfolding endedAs
+end-dies t x s v Down b = without-out s v
+end-dies t x s v Waiting b = without-out s v
+end-dies t x s v Starting true = without-out s v
+end-dies t x s v Starting false = without-out s v
+end-dies t x s v Up b = without-out s v
+end-dies t x s v Ending b = without-out s v
+
+-- ---- nothing that hard-depends on a service that an action is handed out for is active
+
+pub rule-clear : (t : Table) (x : State) (s : ℕ) (k : Rule) (b : Bool) → fits k t x s ≡ true → (e : ℕ) → Acts (handed (hands k t x s) b) e
+    → (isUp (recordAt x e .phase) ≡ false) ⊎ Unblocked t x e
+rule-clear t x s k b f e q = subst (λ i. (isUp (recordAt x i .phase) ≡ false) ⊎ Unblocked t x i) (hands-on k t x s e q) (go k f q)
+  where
+    go : (k : Rule) → fits k t x s ≡ true → ActsOn (hands k t x s) e → (isUp (recordAt x s .phase) ≡ false) ⊎ Unblocked t x s
+    go Lose f q = absurd (unfold hands in q)
+    go Abandon f q = absurd (unfold hands in q)
+    go Settle f q = absurd (unfold hands in q)
+    go Wake f q = absurd (unfold hands in q)
+    go Release f q = absurd (unfold hands in q)
+    go Begin f q = inl (rw (is-waiting (recordAt x s .phase) (begin-fits t x s .0 f .waits)))
+    go End f q = inr (unblocked t x s .0 (end-fits t x s .0 f .unblocked))
+    go Expire f q = inl (not-true _ .0 (expire-not-up (recordAt x s .phase) (not (recordAt x s .killed)) (expire-fits t x s .0 f .which)))

@@ -7,7 +7,7 @@ use Rattle.base.proofs.Tests.{no-ft}
 use Rattle.service.specs.declared.State.{State}
 use Rattle.service.specs.declared.Table.{Table}
 use Rattle.rules.specs.Calls.{Call, Outcome, gives, outcome, refused}
-use Rattle.rules.specs.Demand.{isRefused, marks, marksOf}
+use Rattle.rules.specs.Demand.{isRefused, moments, momentsBy}
 use Rattle.rules.proofs.Came.{Came, acts, came, clocks, ends, refuses, runs, starts, stops, stops-all, tells}
 
 module _ (t : Table) (x : State) where
@@ -25,7 +25,7 @@ module _ (t : Table) (x : State) where
       go tells e = no-ft e
       go (runs a b) e = no-ft e
 
-  -- so it marks nothing
-  pub refused-same : (c : Call) → isRefused (outcome t x c .answer) ≡ true → (outcome t x c .state ≡ x) × (marks t x c ≡ [])
-  unfolding marks marksOf
+  -- so it is no moment
+  pub refused-same : (c : Call) → isRefused (outcome t x c .answer) ≡ true → (outcome t x c .state ≡ x) × (moments t x c ≡ [])
+  unfolding moments momentsBy
   refused-same c e = let h = refusal-leaves-all c e in (ap (λ (o : Outcome). o .state) (h .1), rw (h .1))

@@ -23,7 +23,7 @@ use Rattle.service.specs.declared.Signal.the-variants.{Hup, Int, Kill, None as 
 use Rattle.service.specs.declared.State.{State}
 use Rattle.service.specs.declared.Table.{Table}
 use Rattle.rules.specs.Calls.{Call, Outcome, afterCalls, outcome}
-use Rattle.rules.specs.Demand.{Mark, Rests, RestsEverywhere, accepted, actionsIn, deadlineKill, eventless, handed, isAction, isEvent, isRefused, marks, marksOf, readBack, story}
+use Rattle.rules.specs.Demand.{Moment, Rests, RestsEverywhere, accepted, actionsIn, deadlineKill, eventless, handed, isAction, isEvent, isRefused, moment, moments, momentsBy, readBack, story}
 use Rattle.rules.specs.Rules.{act, begunAction, endAction, hands, nextAction, termAction}
 use Rattle.rules.specs.Runs.{actionAfter, stateAfter, stepsToQuiet, writtenActions, writtenServices}
 use Rattle.rules.specs.WellFormed.{tableFormed}
@@ -100,9 +100,9 @@ steps-quiet t x h = go (sought (λ k. isQuiet (actionAfter t x k)) (4 * t .count
         (λ e. rw (← e) (ap isQuiet (q .2)))
         (λ m. absurd (not-both (ap isQuiet (q .2)) (n (q .0) m)))
 
--- ---- the actions among the marks
+-- ---- the actions among the moments
 
-actions-append : (ms ns : List Mark) → actionsIn (ms ++ ns) ≡ actionsIn ms + actionsIn ns
+actions-append : (ms ns : List Moment) → actionsIn (ms ++ ns) ≡ actionsIn ms + actionsIn ns
 unfolding actionsIn
 actions-append [] ns = omega arith
 actions-append (m ∷ ms) ns = let e = actions-append ms ns in omega arith
@@ -114,12 +114,12 @@ at-most-one (Launch s) b = lit≤ tt
 at-most-one (StopCommand s) b = lit≤ tt
 at-most-one (Signal s g) b = lit≤ tt
 
-actions-listed : (f : ℕ → Action) (b : ℕ → Bool) (n : ℕ) → actionsIn (listed (λ i. handed (f i) (b i)) n) ≤ n
+actions-listed : (f : ℕ → Moment) → ((i : ℕ) → isAction (f i .mark) ≤ 1) → (n : ℕ) → actionsIn (listed f n) ≤ n
 unfolding actionsIn listed
 actions-listed f b zero = le-refl 0
 actions-listed f b (suc n) =
     let h = actions-listed (λ i. f (suc i)) (λ i. b (suc i)) n in
-    let o = at-most-one (f 0) (b 0) in
+    let o = b 0 in
     omega arith
 
 -- ---- from a bound on single actions to one on calls
@@ -139,14 +139,14 @@ module _ (t : Table) where
       (r .0, rw (after-first t x k) (r .1), omega arith)
 
   -- what a call that is no accepted event leaves of the bound
-  abbrev Leaves : ℕ → List Mark → State → Type 0
+  abbrev Leaves : ℕ → List Moment → State → Type 0
   Leaves f ms y = (g : ℕ) × Ends t g y × (actionsIn ms + g ≤ f)
 
   nothing : (f : ℕ) (y : State) → Ends t f y → Leaves f [] y
   unfolding actionsIn
   nothing f y e = (f, e, omega arith)
 
-  next-leaves : (f : ℕ) (x : State) → Ends t f x → (b : Bool) → Leaves f (handed (nextAction t x .action) b ∷ []) (nextAction t x .state)
+  next-leaves : (f : ℕ) (x : State) → Ends t f x → (b : Bool) → Leaves f (moment (handed (nextAction t x .action) b) x (nextAction t x .state) ∷ []) (nextAction t x .state)
   unfolding actionsIn
   next-leaves f x (quiet q) b =
       let st = quiet-stays t x (ap isQuiet q) in
@@ -155,18 +155,21 @@ module _ (t : Table) where
 
   module _ (f : ℕ) (x : State) (e : Ends t f x) where
     abbrev LeavesBy : Call → Outcome → Type 0
-    LeavesBy c o = Leaves f (marksOf t x c (o .answer) (o .services) (o .actions)) (o .state)
+    LeavesBy c o = Leaves f (momentsBy (o .answer) t x c o) (o .state)
 
     run-leaves : (ss as′ : List ℕ) → 4 * t .count ≤ length ss → 4 * t .count ≤ length as′
         → Leaves f (readBack t x (writtenServices t x ss) (writtenActions t x as′) (stepsToQuiet t x)) (stateAfter t x (stepsToQuiet t x))
     run-leaves ss as′ a b =
         let r = runs-end (stepsToQuiet t x) f x e (steps-loud t x) in
         let l = r .2 in
-        let m = actions-listed (actionAfter t x) (λ i. deadlineKill t (stateAfter t x i)) (stepsToQuiet t x) in
+        let m =
+        actions-listed
+        (λ i. moment (handed (actionAfter t x i) (deadlineKill t (stateAfter t x i))) (stateAfter t x i) (stateAfter t x (suc i)))
+        (λ i. at-most-one (actionAfter t x i) (deadlineKill t (stateAfter t x i))) (stepsToQuiet t x) in
         rw (read-back t x ss as′ a b) (r .0, r .1, omega arith)
 
     by-came : {c : Call} {o : Outcome} → Came t x c o → (isEvent c && not (isRefused (o .answer))) ≡ false → LeavesBy c o
-    unfolding marksOf
+    unfolding momentsBy
     by-came (refuses k) a = nothing f x e
     by-came (starts l) a = no-tf a
     by-came (stops l) a = no-tf a
@@ -177,8 +180,8 @@ module _ (t : Table) where
     by-came tells a = nothing f x e
     by-came (runs {ss} {as′} l m) a = run-leaves ss as′ l m
 
-    call-leaves : (c : Call) → (isEvent c && accepted t x c) ≡ false → Leaves f (marks t x c) (outcome t x c .state)
-    unfolding marks accepted
+    call-leaves : (c : Call) → (isEvent c && accepted t x c) ≡ false → Leaves f (moments t x c) (outcome t x c .state)
+    unfolding moments accepted
     call-leaves c a = by-came (came t x c) a
 
   few-actions : (cs : List Call) (f : ℕ) (x : State) → Ends t f x → eventless t x cs ≡ true → actionsIn (story t x cs) ≤ f
@@ -188,7 +191,7 @@ module _ (t : Table) where
       let q = and-true (not (isEvent c && accepted t x c)) _ .0 h in
       let r = call-leaves f x e c (not-true _ .0 (q .0)) in
       let m = few-actions cs (r .0) (outcome t x c .state) (r .1) (q .1) in
-      let a = actions-append (marks t x c) (story t (outcome t x c .state) cs) in
+      let a = actions-append (moments t x c) (story t (outcome t x c .state) cs) in
       let l = r .2 in
       omega arith
 

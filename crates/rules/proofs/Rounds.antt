@@ -14,10 +14,8 @@ use Rattle.base.proofs.Below.{some-false, some-true}
 use Rattle.base.proofs.Links.{join}
 use Rattle.base.proofs.Sums.{sum-bound, sum-le, sum-lt, sum-term}
 use Rattle.base.proofs.Tests.{either, no-ft, not-both, not-false, not-true, or-not, refute, tests}
-use Rattle.service.specs.Numbers.{isQuiet}
 use Rattle.service.specs.Records.{active, isDown, isEnding, isStarting, isUp, isUser, recordAt}
 use Rattle.service.specs.Settings.{formOf, settingsAt}
-use Rattle.service.specs.declared.Action.the-variants.{Quiet}
 use Rattle.service.specs.declared.Deadline.the-variants.{At}
 use Rattle.service.specs.declared.Phase.{Phase}
 use Rattle.service.specs.declared.Phase.the-variants.{Ending}
@@ -26,29 +24,28 @@ use Rattle.service.specs.declared.State.{State}
 use Rattle.service.specs.declared.Table.{Table}
 use Rattle.service.proofs.Finite.{bools, finite, given, phases}
 use Rattle.service.proofs.Named.{is-ending}
-use Rattle.service.proofs.States.{Sized, with-same}
-use Rattle.rules.specs.Calls.{Answer, Call, Outcome, acted, clock, done, end, next, outcome, ran, refused, run, told}
-use Rattle.rules.specs.Demand.{Clear, NoZeroTimeout, Now, Reported, Rests, Round, Rounds, Stretch, ToQuiet, accepted, another, by-run, call, empty, freshNow, here, isRefused, isStart, no-rounds, nowAfter, recorded, round, sent, singly, there}
+use Rattle.service.proofs.States.{Sized, fresh-record, with-same}
+use Rattle.rules.specs.Calls.{Call, Outcome, clock, end, outcome}
+use Rattle.rules.specs.Demand.{Clear, NoZeroTimeout, Now, Reported, Round, Rounds, Stretch, accepted, another, call, empty, freshNow, here, isRefused, isStart, no-rounds, nowAfter, recorded, round, sent, there}
 use Rattle.rules.specs.Dependencies.{blocked, hard, hardLinks}
 use Rattle.rules.specs.Events.{afterClock, afterEnd, brings, endedAs}
-use Rattle.rules.specs.Rules.{Step, due}
-use Rattle.rules.specs.Runs.{actionAfter, stateAfter, stepsToQuiet}
+use Rattle.rules.specs.Rules.{due}
 use Rattle.rules.specs.WellFormed.{shapedAt, tableFormed}
 use Rattle.rules.specs.declared.Rule.the-variants.{End, Expire}
-use Rattle.rules.proofs.Came.{Came, acts, came, clocks, ends, refuses, runs}
-use Rattle.rules.proofs.Halting.{Since, halting-active, halting-user, since-call, since-here}
-use Rattle.rules.proofs.Fed.{call-leads}
+use Rattle.rules.proofs.Came.{Came, came, clocks, ends, refuses}
+use Rattle.rules.proofs.Halting.{halting-active, halting-user}
 use Rattle.rules.proofs.Fitting.{end-fits, expire-fits}
-use Rattle.rules.proofs.Formed.{sound-formed}
 use Rattle.rules.proofs.Held.{Unblocked, unblocked}
 use Rattle.rules.proofs.Links.{TableSound, no-hard-cycle}
 use Rattle.rules.proofs.Next.{Stays}
-use Rattle.rules.proofs.Recorded.{Good}
-use Rattle.rules.proofs.Resting.{quiet-stays, rests-everywhere, steps-quiet}
-use Rattle.rules.proofs.Safety.{fresh-good, good-feeds}
-use Rattle.rules.proofs.SentKill.{KilledSent, fresh-sent, sent-feeds}
+use Rattle.rules.proofs.Lawful.{Lawful, lawful-walk}
+use Rattle.rules.proofs.Safety.{Good, fresh-good, good-step}
+use Rattle.rules.proofs.SentKill.{KilledSent}
 use Rattle.rules.proofs.Shapes.{active-not-down, down-dead, ending-lives, user-caused}
-use Rattle.rules.proofs.Timed.{Timed, fresh-timed, timed-call, timing}
+use Rattle.rules.proofs.Since.{Since, since-call, since-here}
+use Rattle.rules.proofs.Steps.{call-walk, walk-keeps, walk-leads}
+use Rattle.rules.proofs.Timed.{Timed, timing}
+use Rattle.rules.proofs.ToQuiet.{next-quiet}
 
 test-left-ending : phases (λ p. given (active p) (given (not (isUp p)) (given (not (isStarting p)) (isEnding p)))) ≡ true
 unfolding phases given
@@ -131,7 +128,7 @@ one-unblocked t ts x s sl d =
     h (k .0) (k .1) (k .1) (not-true _ .0 (active-not-down (recordAt x (k .0) .phase) (k .2 .1))) (unfold hard in link (k .2 .0)))
     s sl d))
 
--- ---- what an accepted clock reading, end and run do
+-- ---- what an accepted clock reading and an accepted end do
 
 clock-state : (t : Table) (x : State) (n : ℕ) → accepted t x (clock n) ≡ true → outcome t x (clock n) .state ≡ afterClock x n
 unfolding accepted
@@ -149,34 +146,6 @@ end-state t x s good a = go (came t x (end s good)) a
     go : {o : Outcome} → Came t x (end s good) o → not (isRefused (o .answer)) ≡ true → (recordAt x s .live ≡ true) × (o .state ≡ afterEnd t x s good)
     go (refuses k) e = no-ft e
     go (ends l lives) e = (lives, refl)
-
-run-state : (t : Table) (x : State) (ss as′ : List ℕ) → accepted t x (run ss as′) ≡ true → outcome t x (run ss as′) .state ≡ stateAfter t x (stepsToQuiet t x)
-unfolding accepted
-run-state t x ss as′ a = go (came t x (run ss as′)) a
-  where
-    go : {o : Outcome} → Came t x (run ss as′) o → not (isRefused (o .answer)) ≡ true → o .state ≡ stateAfter t x (stepsToQuiet t x)
-    go (refuses k) e = no-ft e
-    go (runs l m) e = refl
-
-abbrev quietly : Answer → Bool
-quietly (refused k) = false
-quietly done = false
-quietly (acted a) = isQuiet a
-quietly (ran n) = false
-quietly (told d) = false
-
--- a quiet answer leaves the state, in which no rule fits
-next-quiet : (t : Table) (x : State) → outcome t x next .answer ≡ acted Quiet → (outcome t x next .state ≡ x) × Stays t x
-next-quiet t x a = go (came t x next) (ap quietly a)
-  where
-    go : {o : Outcome} → Came t x next o → quietly (o .answer) ≡ true → (o .state ≡ x) × Stays t x
-    go (refuses k) e = no-ft e
-    go acts e = let q = quiet-stays t x e in (ap (λ (o : Step). o .state) (q .does), q)
-
--- a run to quiet comes to quiet
-run-quiet : (t : Table) (x : State) → Rests t x → Stays t (stateAfter t x (stepsToQuiet t x))
-unfolding actionAfter
-run-quiet t x h = quiet-stays t _ (steps-quiet t x h)
 
 less : (a b : Bool) → (a ≡ true → b ≡ true) → pick b 0 1 ≤ pick a 0 1
 less true true h = le-refl 0
@@ -196,15 +165,23 @@ module _ (t : Table) (tf : tableFormed t ≡ true) (ts : TableSound t) (nz : NoZ
     pub sends : KilledSent t (n .sentKill) (n .state)
 
   pub fresh-reached : Reached freshNow
-  fresh-reached = record { good = fresh-good t ts; timed = fresh-timed t (ts .few) nz; sends = fresh-sent t (ts .few) }
+  fresh-reached = record {
+    good = fresh-good t ts;
+    timed = λ s _ e. no-ft (rw (fresh-record s) at e);
+    sends = λ s _ d. no-ft (rw (fresh-record s) at d);
+  }
 
   pub reached-call : (n : Now) → Reached n → (c : Call) → Reached (nowAfter t n c)
   unfolding nowAfter
-  reached-call n h c = record {
-    good = call-leads t (Clear t) recorded (Good t ts) (good-feeds t ts) (n .live) (n .state) (h .good) c .keeps;
-    timed = timed-call t (ts .few) nz (n .state) (h .timed) c;
-    sends = call-leads t (λ v m. Unit {0}) sent (KilledSent t) (sent-feeds t (ts .few)) (n .sentKill) (n .state) (h .sends) c .keeps;
-  }
+  reached-call n h c =
+      let w = lawful-walk t ts true (call-walk t (n .state) c) (h .good .sound) in
+      record {
+        good = walk-leads (Lawful t) (Clear t) recorded (Good t ts) (good-step t ts) w (n .live) (h .good) .keeps;
+        timed = walk-keeps (Lawful t) (Timed t) (λ m law q s l. law .fair s l .times nz (q s l)) w (h .timed);
+        sends =
+            walk-leads (Lawful t) (λ u m. Unit {0}) sent (KilledSent t) (λ u m law q. (tt, λ s l. law .fair s l .kills u (q s l)))
+            w (n .sentKill) (h .sends) .keeps;
+      }
 
   -- and on the way down from x₀
   pub record HaltingSince (x₀ : State) (n : Now) : Type 0 where
@@ -213,7 +190,7 @@ module _ (t : Table) (tf : tableFormed t ≡ true) (ts : TableSound t) (nz : NoZ
 
   halt-call : (x₀ : State) (n : Now) (c : Call) → (isStart c && accepted t (n .state) c) ≡ false → HaltingSince x₀ n → HaltingSince x₀ (nowAfter t n c)
   halt-call x₀ n c b f = record {
-    since = unfold nowAfter in since-call t (ts .few) x₀ (n .state) c b (f .since);
+    since = unfold nowAfter in since-call t ts x₀ (n .state) c b (f .reached .good .sound) (f .since);
     reached = reached-call n (f .reached) c;
   }
 
@@ -222,26 +199,10 @@ module _ (t : Table) (tf : tableFormed t ≡ true) (ts : TableSound t) (nz : NoZ
   halt-stretch x₀ (call {n = n} c b r) f = halt-stretch x₀ r (halt-call x₀ n c b f)
 
   pub halt-here : {x₀ : State} {n : Now} → HaltingSince x₀ n → HaltingSince (n .state) n
-  halt-here {x₀} {n} f = record { since = since-here t (ts .few) x₀ (n .state) (f .since); reached = f .reached }
+  halt-here {x₀} {n} f = record { since = since-here t ts x₀ (n .state) (f .since); reached = f .reached }
 
   shapes : {x₀ : State} {n : Now} → HaltingSince x₀ n → (s : ℕ) → s < t .count → shapedAt t (n .state) s ≡ true
-  shapes f s l = f .reached .good .kept .sound .shapes s l
-
-  -- actions taken to quiet are a stretch, and leave a quiet state
-  stretch-end : {n n′ : Now} {cs : List Call} → Stretch t n cs n′ → (c : Call) → (isStart c && accepted t (n′ .state) c) ≡ false → Stretch t n (cs ++ (c ∷ [])) (nowAfter t n′ c)
-  stretch-end empty c b = call c b empty
-  stretch-end (call d e r) c b = call d e (stretch-end r c b)
-
-  pub quiet-stretch : {n n′ : Now} {cs : List Call} → ToQuiet t n cs n′ → Stretch t n cs n′
-  quiet-stretch (by-run ss as′ a) = call (run ss as′) refl empty
-  quiet-stretch (singly r e a) = stretch-end r next refl
-
-  quiet-there : {x₀ : State} {n n′ : Now} {cs : List Call} → ToQuiet t n cs n′ → HaltingSince x₀ n → Stays t (n′ .state)
-  unfolding nowAfter
-  quiet-there {n = n} (by-run ss as′ a) f =
-      rw (run-state t (n .state) ss as′ a)
-      (run-quiet t (n .state) (rests-everywhere t (n .state) (f .since .sized) (sound-formed t (n .state) tf (f .reached .good .kept .sound))))
-  quiet-there (singly {n′ = n′} r e a) f = let q = next-quiet t (n′ .state) a in rw (q .0) (q .1)
+  shapes f s l = f .reached .good .sound .shapes s l
 
   -- an accepted end takes down what is ending
   end-down : (x : State) (s : ℕ) (good : Bool) → s < t .count → Sized x → isEnding (recordAt x s .phase) ≡ true → isDown (recordAt (afterEnd t x s good) s .phase) ≡ true
@@ -267,7 +228,7 @@ module _ (t : Table) (tf : tableFormed t ≡ true) (ts : TableSound t) (nz : NoZ
       either
       y
       (λ d. absurd (not-both (k .0) (down-not-live s l f d)))
-      (λ e. unfold nowAfter in rw (k .1) (end-down (n .state) s good l (f .since .sized) e)) in
+      (λ e. unfold nowAfter in rw (k .1) (end-down (n .state) s good l (f .reached .good .sound .sized) e)) in
       halt-stretch (n1 .state) r (halt-here (halt-call (n .state) n (end s good) b f)) .since .goes s l .down down1
   reported-down s l {n} (there _ e) (call c b r) f y =
       let f1 = halt-call (n .state) n c b f in
@@ -331,22 +292,22 @@ module _ (t : Table) (tf : tableFormed t ≡ true) (ts : TableSound t) (nz : NoZ
       at-read = halt-stretch (waited .state) passed (halt-call (waited .state) waited (clock c) refl (halt-here at-waited))
 
       at-still : HaltingSince (waited .state) still
-      at-still = halt-stretch (waited .state) (quiet-stretch calmed) at-read
+      at-still = halt-stretch (waited .state) (calmed .calls) at-read
 
       on-to-over : HaltingSince (still .state) over
-      on-to-over = halt-stretch (still .state) (quiet-stretch rested) (halt-stretch (still .state) ended (halt-here at-still))
+      on-to-over = halt-stretch (still .state) (rested .calls) (halt-stretch (still .state) ended (halt-here at-still))
 
       at-over : HaltingSince (n .state) over
       at-over =
-          halt-stretch (n .state) (quiet-stretch rested)
+          halt-stretch (n .state) (rested .calls)
           (halt-stretch (n .state) ended
-          (halt-stretch (n .state) (quiet-stretch calmed) (halt-stretch (n .state) passed (halt-call (n .state) waited (clock c) refl at-waited))))
+          (halt-stretch (n .state) (calmed .calls) (halt-stretch (n .state) passed (halt-call (n .state) waited (clock c) refl at-waited))))
 
       quiet-still : Stays t (still .state)
-      quiet-still = quiet-there calmed at-read
+      quiet-still = next-quiet t (still .state) (calmed .quiet) .1
 
       quiet-over : Stays t (over .state)
-      quiet-over = quiet-there rested (halt-stretch (still .state) ended (halt-here at-still))
+      quiet-over = next-quiet t (over .state) (rested .quiet) .1
 
       -- the clock has reached what was pending at the reading
       reached-clock : c ≤ still .state .clock
@@ -354,14 +315,14 @@ module _ (t : Table) (tf : tableFormed t ≡ true) (ts : TableSound t) (nz : NoZ
           let m : Now = nowAfter t waited (clock c) in
           let a : m .state .clock ≡ c = unfold nowAfter in unfold afterClock in ap (λ (y : State). y .clock) (clock-state t (waited .state) c taken) in
           let g : HaltingSince (m .state) m = halt-here (halt-call (waited .state) waited (clock c) refl (halt-here at-waited)) in
-          let b : m .state .clock ≤ still .state .clock = halt-stretch (m .state) (quiet-stretch calmed) (halt-stretch (m .state) passed g) .since .clocks in
+          let b : m .state .clock ≤ still .state .clock = halt-stretch (m .state) (calmed .calls) (halt-stretch (m .state) passed g) .since .clocks in
           omega arith
 
       -- a deadline of the reading that still stands is past
       overdue : (s : ℕ) → s < t .count → timing (recordAt (waited .state) s .phase) ≡ true → recordAt (still .state) s .deadline ≡ recordAt (waited .state) s .deadline
           → (e : ℕ) × (recordAt (still .state) s .deadline ≡ At e) × (e ≤ still .state .clock)
       overdue s l b d =
-          let k = at-waited .reached .timed .timed s l b in
+          let k = at-waited .reached .timed s l b in
           let p : k .0 ≤ c = past s (k .0) l (k .1) in
           let r = reached-clock in
           (k .0, d ∙ k .1, le-trans p r)
@@ -400,9 +361,9 @@ module _ (t : Table) (tf : tableFormed t ≡ true) (ts : TableSound t) (nz : NoZ
           let w = overdue s l (ending-timing (recordAt (waited .state) s .phase) (k .0)) (m .1) in
           let down-reported : isDown (recordAt (reported .state) s .phase) ≡ true =
           reported-down s l
-          (rep s l (ending-recorded at-still s l (m .0)) (at-still .reached .sends .sends s l (is-killed (still .state) quiet-still s l (w .0) (w .1) (w .2) (m .0)) .1))
+          (rep s l (ending-recorded at-still s l (m .0)) (at-still .reached .sends s l (is-killed (still .state) quiet-still s l (w .0) (w .1) (w .2) (m .0)) .1))
           ended (halt-here at-still) (inr (m .0)) in
-          halt-stretch (reported .state) (quiet-stretch rested) (halt-here (halt-stretch (still .state) ended (halt-here at-still))) .since .goes s l .down down-reported))
+          halt-stretch (reported .state) (rested .calls) (halt-here (halt-stretch (still .state) ended (halt-here at-still))) .since .goes s l .down down-reported))
 
   -- ---- how many services are not down
 

@@ -15,10 +15,10 @@ use Rattle.service.specs.Numbers.{actionNumber, actionOf, actionService, isQuie
 use Rattle.service.specs.declared.Action.{Action}
 use Rattle.service.specs.declared.Action.the-variants.{Launch, Moved, Quiet, Signal, StopCommand}
 use Rattle.service.specs.declared.Signal.{Signal as SignalName}
-use Rattle.service.specs.declared.Signal.the-variants.{Hup, Int, Kill, None as NoSignal, Quit, Term, Usr1, Usr2}
 use Rattle.service.specs.declared.State.{State}
 use Rattle.service.specs.declared.Table.{Table}
-use Rattle.rules.specs.Demand.{deadlineKill, handed, readBack}
+use Rattle.service.proofs.Numbering.{signal-back}
+use Rattle.rules.specs.Demand.{deadlineKill, handed, moment, readBack}
 use Rattle.rules.specs.Rules.{nextAction}
 use Rattle.rules.specs.Runs.{actionAfter, stateAfter, stepsToQuiet, written, writtenActions, writtenServices}
 
@@ -57,16 +57,6 @@ steps-loud t x i l = go (sought (λ k. isQuiet (actionAfter t x k)) (4 * t .coun
     go (found h) m = h .first i m
     go (nowhere h) m = h i m
 
-signal-back : (g : SignalName) → signalAt (signalNumber g) ≡ g
-signal-back NoSignal = refl
-signal-back Hup = refl
-signal-back Int = refl
-signal-back Term = refl
-signal-back Quit = refl
-signal-back Usr1 = refl
-signal-back Usr2 = refl
-signal-back Kill = refl
-
 -- three and a place, as the numbers are read back
 three-more : (s n : ℕ) → actionOf s (3 + n) ≡ Signal s (signalAt n)
 three-more s n = ap (actionOf s) (let e : 3 + n ≡ suc (suc (suc n)) = omega arith in e)
@@ -76,7 +66,7 @@ action-back Quiet e = no-tf e
 action-back (Moved s) e = refl
 action-back (Launch s) e = refl
 action-back (StopCommand s) e = refl
-action-back (Signal s g) e = three-more s (signalNumber g) ∙ ap (λ (h : SignalName). Signal s h) (signal-back g)
+action-back (Signal s g) e = three-more s (signalNumber g) ∙ ap (λ (h : SignalName). Signal s h) (signal-back g .0)
 
 written-length : (f : ℕ → ℕ) (l : List ℕ) (n : ℕ) → length (written f l n) ≡ length l
 unfolding written
@@ -93,10 +83,10 @@ written-at f l (suc n) r i h =
     (λ (m : i < n).
     getD-set-other (written f l n) n i (f n) 0 (λ e. lt-irrefl i (rw (← e) at m)) ∙ written-at f l n (omega arith) i m)
 
--- the marks of a run that has room are its actions by the rules
+-- the moments of a run that has room are its actions by the rules
 pub read-back : (t : Table) (x : State) (ss as′ : List ℕ) → 4 * t .count ≤ length ss → 4 * t .count ≤ length as′
     → readBack t x (writtenServices t x ss) (writtenActions t x as′) (stepsToQuiet t x)
-    ≡ listed (λ i. handed (actionAfter t x i) (deadlineKill t (stateAfter t x i))) (stepsToQuiet t x)
+    ≡ listed (λ i. moment (handed (actionAfter t x i) (deadlineKill t (stateAfter t x i))) (stateAfter t x i) (stateAfter t x (suc i))) (stepsToQuiet t x)
 unfolding readBack writtenServices writtenActions
 read-back t x ss as′ r q =
     listed-as _ _ (stepsToQuiet t x)

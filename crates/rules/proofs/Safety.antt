@@ -1,88 +1,94 @@
--- The first half of demand 3: over every list of calls, at each action handed out nothing that hard-depends on its service
--- is in the record.
+-- The first half of demand 3, and that the record is the live flags: over every list of calls, at each action handed out nothing that
+-- hard-depends on its service is in the record, since what is active keeps up what it hard-depends on.
 use Prim.Native.Nat.{_<_, ℕ}
-use mathlib.Core.Bool.{Bool, false, true}
-use mathlib.Core.List.{List, [], _∷_}
-use mathlib.Core.Path.{_∙_, _≡_, refl, sym}
-use native.Mathlib.Nat.{le-trans}
-use Rattle.base.specs.Sets.{kept}
-use Rattle.service.specs.Records.{freshState, recordAt}
-use Rattle.service.specs.Settings.{settingsAt}
-use Rattle.service.specs.declared.Phase.{Phase}
-use Rattle.service.specs.declared.Phase.the-variants.{Down, Ending, Starting, Up, Waiting}
-use Rattle.service.specs.declared.Record.{Record}
+use mathlib.Core.Bool.{false, true}
+use mathlib.Core.List.{List}
+use mathlib.Core.Logic.{_⊎_}
+use mathlib.Core.Path.{_∙_, _≡_}
+use Rattle.base.specs.Links.{Path, link, on}
+use Rattle.base.proofs.Tests.{either, no-ft, not-both, not-true, refute}
+use Rattle.service.specs.Records.{active, freshState, isUp, recordAt}
+use Rattle.service.specs.Settings.{formOf, settingsAt}
 use Rattle.service.specs.declared.State.{State}
 use Rattle.service.specs.declared.Table.{Table}
-use Rattle.service.proofs.States.{Sized, fresh-record, same, with-all}
-use Rattle.rules.specs.Calls.{Call}
-use Rattle.rules.specs.Demand.{Clear, Mark, Safe, Set, deadlineKill, nobody, recorded, story, without}
-use Rattle.rules.specs.Events.{afterClock, afterEnd, afterStart, afterStop, afterStopAll, brings, each, endedAs}
-use Rattle.rules.specs.WellFormed.{tableFormed}
-use Rattle.rules.proofs.Each.{each-below}
-use Rattle.rules.proofs.Fed.{Each, Feeds, story-leads}
-use Rattle.rules.proofs.Held.{Kept, fresh-kept, kept-clock, kept-end, kept-start, kept-stop, kept-stop-all}
-use Rattle.rules.proofs.Links.{TableSound, table-sound}
-use Rattle.rules.proofs.Recorded.{Good, next-good, without-others, without-out}
-use Rattle.rules.proofs.Rest.{acts}
+use Rattle.service.proofs.States.{fresh-record}
+use Rattle.rules.specs.Calls.{Call, afterCalls}
+use Rattle.rules.specs.Demand.{Clear, ClearBy, Each, Mark, Moment, Set, began, ended, fed, handed, nobody, passed, recorded, story}
+use Rattle.rules.specs.Dependencies.{hard, hardLinks}
+use Rattle.rules.specs.WellFormed.{shapedAt, tableFormed}
+use Rattle.rules.proofs.Formed.{Sound, fresh-sound}
+use Rattle.rules.proofs.Held.{Held, Unblocked}
+use Rattle.rules.proofs.Lawful.{Lawful, lawful-walk}
+use Rattle.rules.proofs.Links.{TableSound, hard-inside, table-sound}
+use Rattle.rules.proofs.Recorded.{Acts}
+use Rattle.rules.proofs.Shapes.{inactive-dead, up-active}
+use Rattle.rules.proofs.Steps.{Leads, story-walk, walk-leads}
+
+-- a lawful step keeps the hard dependencies
+pub held-step : (t : Table) (m : Moment) → Lawful t m → Held t (m .before) → Held t (m .after)
+held-step t m law held e d el dl h on′ =
+    either
+    (law .comes e el on′)
+    (λ was. either (law .parts d dl (held e d el dl h was)) (λ up. up) (λ free. absurd (free e el h on′)))
+    (λ ups. ups d dl h)
 
 module _ (t : Table) (ts : TableSound t) where
-  -- the flags are those of x
-  relive : (v : Set) (x y : State) → Good t ts v x → Kept t ts y → ((s : ℕ) → s < t .count → recordAt y s .live ≡ recordAt x s .live) → Good t ts v y
-  relive v x y g k h = record { kept = k; same = λ s l. g .same s l ∙ sym (h s l) }
+  -- the record v tells the live flags of x
+  pub record Good (v : Set) (x : State) : Type 0 where
+    pub sound : Sound t x
+    pub held : Held t x
+    pub same : (s : ℕ) → s < t .count → v s ≡ recordAt x s .live
 
-  each-live : (x : State) (f : ℕ → Record → Record) → Sized x → ((e : ℕ) (r : Record) → f e r .live ≡ r .live) → (s : ℕ) → s < t .count
-      → recordAt (each f x (t .count)) s .live ≡ recordAt x s .live
-  each-live x f z h s l = rw (each-below f x (t .count) z (ts .few) s l) (h s (recordAt x s))
+  module _ (v : Set) (x : State) (g : Good v x) where
+    -- what an active service hard-depends on, directly or through others, is up, and a direct dependent of it is active
+    chain : {e d : ℕ} → e < t .count → Path (hardLinks t) e d → active (recordAt x e .phase) ≡ true
+        → (isUp (recordAt x d .phase) ≡ true) × ((m : ℕ) × (m < t .count) × (hard t m d ≡ true) × (active (recordAt x m .phase) ≡ true))
+    unfolding hard
+    chain {e} {d} el (link h) a = let dl = hard-inside t ts e d el h in (g .held e d el dl h a, (e, el, h, a))
+    chain {e} {d} el (on {k = k} h p) a =
+        let kl = hard-inside t ts e k el h in chain kl p (up-active (recordAt x k .phase) (g .held e k el kl h a))
 
-  dies : (s : ℕ) (x : State) (p : Phase) (b : Bool) → endedAs p (settingsAt t s) (x .clock) b (recordAt x s) .live ≡ false
-  unfolding endedAs
-  dies s x Down b = refl
-  dies s x Waiting b = refl
-  dies s x Starting true = refl
-  dies s x Starting false = refl
-  dies s x Up b = refl
-  dies s x Ending b = refl
+    -- a service that is neither starting, up nor ending is not in the record
+    absent : (e : ℕ) → e < t .count → (active (recordAt x e .phase) ≡ true → ⊥) → v e ≡ false
+    unfolding shapedAt
+    absent e el h =
+        g .same e el
+        ∙ not-true (recordAt x e .live) .0
+        (inactive-dead (formOf (settingsAt t e)) (recordAt x e .phase) (recordAt x e .live) (recordAt x e .cause) (g .sound .shapes e el)
+        (not-true (active (recordAt x e .phase)) .1 (refute (active (recordAt x e .phase)) h)))
 
-  end-good : (v : Set) (x : State) (s : ℕ) (good : Bool) → Good t ts v x → s < t .count → Good t ts (without s v) (afterEnd t x s good)
-  end-good v x s good g l = record {
-    kept = kept-end t ts x (g .kept) s good l;
-    same =
-        unfold afterEnd in
-        with-all x s _ (g .kept .sound .sized) (le-trans l (ts .few)) (t .count) (λ e r. without s v e ≡ r .live)
-        (λ e el q. without-others s e v q ∙ g .same e el) (without-out s v ∙ sym (dies s x (recordAt x s .phase) (brings (settingsAt t s) good)));
+    clear-by : (k : Mark) → ((s : ℕ) → Acts k s → (isUp (recordAt x s .phase) ≡ false) ⊎ Unblocked t x s) → ClearBy t v k
+    clear-by (handed a b) h = λ s e q el p.
+        absent e el
+        (λ on′.
+        let c = chain el p on′ in
+        either (h s q) (λ low. not-both (c .0) low) (λ free. free (c .1 .0) (c .1 .1) (c .1 .2) (c .1 .3)))
+    clear-by (ended s) h = tt
+    clear-by began h = tt
+    clear-by passed h = tt
+
+  pub good-step : (v : Set) (m : Moment) → Lawful t m → Good v (m .before) → Clear t v m × Good (recorded m v) (m .after)
+  good-step v m law g = (
+    clear-by v (m .before) g (m .mark) (law .clear),
+    record { sound = law .sound; held = held-step t m law (g .held); same = λ s l. law .fair s l .lives v (g .same s l) },
+  )
+
+  pub fresh-good : Good nobody freshState
+  fresh-good = record {
+    sound = fresh-sound t ts;
+    held = λ e d el dl h a. no-ft (rw (fresh-record e) at a);
+    same = λ s _. rw (fresh-record s);
   }
 
-  stop-good : (v : Set) (x : State) (s : ℕ) → Good t ts v x → s < t .count → Good t ts v (afterStop x s)
-  stop-good v x s g l =
-      relive v x (afterStop x s) g (kept-stop t ts x (g .kept) s l)
-      (unfold afterStop in with-all x s _ (g .kept .sound .sized) (le-trans l (ts .few)) (t .count) (λ e r. r .live ≡ recordAt x e .live) (λ e el _. refl) refl)
-
-  pub good-feeds : Feeds t (Clear t) recorded (Good t ts)
-  good-feeds = record {
-    starts =
-        λ v x s g l.
-        relive v x (afterStart t x s) g (kept-start t ts x (g .kept) s) (unfold afterStart in each-live x _ (g .kept .sound .sized) (λ e r. refl));
-    stops = stop-good;
-    stopsAll =
-        λ v x g. relive v x (afterStopAll t x) g (kept-stop-all t ts x (g .kept)) (unfold afterStopAll in each-live x _ (g .kept .sound .sized) (λ e r. refl));
-    clocks =
-        λ v x n g l m. relive v x (afterClock x n) g (kept-clock t ts x (g .kept) n l m) (unfold afterClock in unfold recordAt in λ s _. refl);
-    ends = λ v x s good g l. (tt, end-good v x s good g l);
-    acts = λ v x g. next-good t ts v x g (deadlineKill t x);
-  }
-
-  pub fresh-good : Good t ts nobody freshState
-  fresh-good = record { kept = fresh-kept t ts; same = λ s _. rw (fresh-record s) }
-
--- in the statement's own words
-each-safe : (t : Table) (ms : List Mark) (v : Set) → Each (Clear t) recorded v ms → Safe t v ms
-unfolding Each Safe
-each-safe t [] v h = tt
-each-safe t (m ∷ ms) v h = (h .0, each-safe t ms (recorded m v) (h .1))
+  story-good : (cs : List Call) → Leads (Lawful t) (Clear t) recorded Good nobody (story t freshState cs) (afterCalls t freshState cs)
+  story-good cs =
+      walk-leads (Lawful t) (Clear t) recorded Good good-step (lawful-walk t ts true (story-walk t cs freshState) (fresh-sound t ts)) nobody fresh-good
 
 -- the first half
-pub always-safe : (t : Table) → tableFormed t ≡ true → (cs : List Call) → Safe t nobody (story t freshState cs)
-always-safe t f cs =
-    let ts = table-sound t .0 f in
-    each-safe t (story t freshState cs) nobody
-    (story-leads t (Clear t) recorded (Good t ts) (good-feeds t ts) cs nobody freshState (fresh-good t ts) .each)
+pub always-safe : (t : Table) → tableFormed t ≡ true → (cs : List Call) → Each (Clear t) recorded nobody (story t freshState cs)
+always-safe t f cs = story-good t (table-sound t .0 f) cs .each
+
+-- the record is the live flags
+pub always-live : (t : Table) → tableFormed t ≡ true → (cs : List Call)
+    → (s : ℕ) → s < t .count → fed recorded (story t freshState cs) nobody s ≡ recordAt (afterCalls t freshState cs) s .live
+always-live t f cs = story-good t (table-sound t .0 f) cs .keeps .same

@@ -17,7 +17,7 @@ use Rattle.service.specs.declared.Deadline.{Deadline}
 use Rattle.service.specs.declared.Deadline.the-variants.{At, None as NoDeadline}
 use Rattle.service.specs.declared.Phase.the-variants.{Down}
 use Rattle.rules.specs.Calls.{Call, afterCalls, check, clock, end, next, outcome, run, start, stopAll}
-use Rattle.rules.specs.Demand.{NoZeroTimeout, Now, Reported, Round, WoundDown, accepted, another, by-run, call, deadlineKill, empty, eventless, fed, freshNow, here, marks, marksOf, no-rounds, nowAfter, nowAt, readBack, round, singly, wound}
+use Rattle.rules.specs.Demand.{NoZeroTimeout, Now, Reported, Round, WoundDown, accepted, another, call, deadlineKill, empty, eventless, fed, freshNow, here, moments, momentsBy, no-rounds, nowAfter, nowAt, readBack, round, wound}
 use Rattle.rules.specs.Dependencies.{allLinks, blocked, depends, hard, hardLinks, needed, soft, strong, strongLinks}
 use Rattle.rules.specs.Events.{afterClock, afterEnd, afterStart, afterStop, afterStopAll, each, endedAs, startReaches}
 use Rattle.rules.specs.Readings.{lone}
@@ -57,11 +57,8 @@ firstRead = nowAfter lone allStopped (clock 0)
 unfoldable pub firstQuiet : Now
 firstQuiet = nowAfter lone firstRead (run room room)
 
-unfoldable pub firstOver : Now
-firstOver = nowAfter lone firstQuiet next
-
 unfoldable pub secondRead : Now
-secondRead = nowAfter lone firstOver (clock 200000)
+secondRead = nowAfter lone firstQuiet (clock 200000)
 
 unfoldable pub killed : Now
 killed = nowAfter lone secondRead next
@@ -75,42 +72,46 @@ secondReported = nowAfter lone secondQuiet (end 0 false)
 secondOver : Now
 secondOver = nowAfter lone secondReported (run room room)
 
-first-round : Round lone allStopped (clock 0 ∷ run room room ∷ next ∷ []) firstOver
-unfolding room opening allStopped firstRead firstQuiet firstOver secondRead killed secondQuiet secondReported secondOver some every first listed hasBit within reach cyclic settingsAt freshState recordAt withRecord hardLinks strongLinks allLinks hard strong soft depends blocked needed tableFormed shapedAt stateFormed formed each startReaches afterStart afterStop afterStopAll endedAs afterEnd afterClock due fits lostToUser leaves hands chosenFrom chosen act actOn nextAction stateAfter actionAfter stepsToQuiet written writtenServices writtenActions check outcome deadlineKill readBack marksOf marks fed accepted eventless nowAfter nowAt
+first-round : Round lone allStopped (clock 0 ∷ run room room ∷ []) firstQuiet
+unfolding room opening allStopped firstRead firstQuiet secondRead killed secondQuiet secondReported secondOver some every first listed hasBit within reach cyclic settingsAt freshState recordAt withRecord hardLinks strongLinks allLinks hard strong soft depends blocked needed tableFormed shapedAt stateFormed formed each startReaches afterStart afterStop afterStopAll endedAs afterEnd afterClock due fits lostToUser leaves hands chosenFrom chosen act actOn nextAction stateAfter actionAfter stepsToQuiet written writtenServices writtenActions check outcome deadlineKill readBack momentsBy moments fed accepted eventless nowAfter nowAt
 first-round =
-    round {n = allStopped} {waited = allStopped} {read = firstRead} {still = firstQuiet} {reported = firstQuiet} {over = firstOver} {pause = []} {between = []} {acts = run room room ∷ []} {ends = []} {rest = next ∷ []} 0
+    round {n = allStopped} {waited = allStopped} {read = firstRead} {still = firstQuiet} {reported = firstQuiet} {over = firstQuiet} {pause = []} {between = []} {acts = run room room ∷ []} {ends = []} {rest = []} 0
     (empty {n = allStopped})
     refl
     (λ s e. only (λ i. recordAt (allStopped .state) i .deadline ≡ At e → e ≤ 0) (λ d. no-ft (ap isSet d)) s)
     (empty {n = firstRead})
-    (by-run {n = firstRead} room room refl)
+    record { calls = call {n = firstRead} {n′ = firstQuiet} {cs = []} (run room room) refl (empty {n = firstQuiet}); between = refl; quiet = refl }
     (empty {n = firstQuiet})
     (only (λ i. firstQuiet .live i ≡ true → firstQuiet .sentKill i ≡ true → Reported lone i firstQuiet []) (λ _ k. no-ft k))
-    (singly {n = firstQuiet} {n′ = firstQuiet} {cs = []} (empty {n = firstQuiet}) refl refl)
+    record { calls = empty {n = firstQuiet}; between = refl; quiet = refl }
 
-second-round : Round lone firstOver (clock 200000 ∷ next ∷ next ∷ end 0 false ∷ run room room ∷ []) secondOver
-unfolding room opening allStopped firstRead firstQuiet firstOver secondRead killed secondQuiet secondReported secondOver some every first listed hasBit within reach cyclic settingsAt freshState recordAt withRecord hardLinks strongLinks allLinks hard strong soft depends blocked needed tableFormed shapedAt stateFormed formed each startReaches afterStart afterStop afterStopAll endedAs afterEnd afterClock due fits lostToUser leaves hands chosenFrom chosen act actOn nextAction stateAfter actionAfter stepsToQuiet written writtenServices writtenActions check outcome deadlineKill readBack marksOf marks fed accepted eventless nowAfter nowAt
+second-round : Round lone firstQuiet (clock 200000 ∷ next ∷ next ∷ end 0 false ∷ run room room ∷ []) secondOver
+unfolding room opening allStopped firstRead firstQuiet secondRead killed secondQuiet secondReported secondOver some every first listed hasBit within reach cyclic settingsAt freshState recordAt withRecord hardLinks strongLinks allLinks hard strong soft depends blocked needed tableFormed shapedAt stateFormed formed each startReaches afterStart afterStop afterStopAll endedAs afterEnd afterClock due fits lostToUser leaves hands chosenFrom chosen act actOn nextAction stateAfter actionAfter stepsToQuiet written writtenServices writtenActions check outcome deadlineKill readBack momentsBy moments fed accepted eventless nowAfter nowAt
 second-round =
-    round {n = firstOver} {waited = firstOver} {read = secondRead} {still = secondQuiet} {reported = secondReported} {over = secondOver} {pause = []} {between = []} {acts = next ∷ next ∷ []} {ends = end 0 false ∷ []} {rest = run room room ∷ []} 200000
-    (empty {n = firstOver})
+    round {n = firstQuiet} {waited = firstQuiet} {read = secondRead} {still = secondQuiet} {reported = secondReported} {over = secondOver} {pause = []} {between = []} {acts = next ∷ next ∷ []} {ends = end 0 false ∷ []} {rest = run room room ∷ []} 200000
+    (empty {n = firstQuiet})
     refl
-    (λ s e. only (λ i. recordAt (firstOver .state) i .deadline ≡ At e → e ≤ 200000) (λ d. rw (← (ap timeOf d)) (lit≤ tt)) s)
+    (λ s e. only (λ i. recordAt (firstQuiet .state) i .deadline ≡ At e → e ≤ 200000) (λ d. rw (← (ap timeOf d)) (lit≤ tt)) s)
     (empty {n = secondRead})
-    (singly {n = secondRead} {n′ = killed} {cs = next ∷ []} (call {n = secondRead} {n′ = killed} {cs = []} next refl (empty {n = killed})) refl refl)
+    record {
+      calls = call {n = secondRead} {n′ = secondQuiet} {cs = next ∷ []} next refl (call {n = killed} {n′ = secondQuiet} {cs = []} next refl (empty {n = secondQuiet}));
+      between = refl;
+      quiet = refl;
+    }
     (call {n = secondQuiet} {n′ = secondReported} {cs = []} (end 0 false) refl (empty {n = secondReported}))
     (only (λ i. secondQuiet .live i ≡ true → secondQuiet .sentKill i ≡ true → Reported lone i secondQuiet (end 0 false ∷ [])) (λ _ _. here {n = secondQuiet} {cs = []} false refl))
-    (by-run {n = secondReported} room room refl)
+    record { calls = call {n = secondReported} {n′ = secondOver} {cs = []} (run room room) refl (empty {n = secondOver}); between = refl; quiet = refl }
 
 -- the whole list
-pub sample : WoundDown lone (start 0 ∷ run room room ∷ stopAll ∷ clock 0 ∷ run room room ∷ next ∷ clock 200000 ∷ next ∷ next ∷ end 0 false ∷ run room room ∷ [])
+pub sample : WoundDown lone (start 0 ∷ run room room ∷ stopAll ∷ clock 0 ∷ run room room ∷ clock 200000 ∷ next ∷ next ∷ end 0 false ∷ run room room ∷ [])
 unfolding opening allStopped
 sample =
-    wound {n = secondOver} {n′ = secondOver} opening (clock 0 ∷ run room room ∷ next ∷ clock 200000 ∷ next ∷ next ∷ end 0 false ∷ run room room ∷ []) []
-    (another {cs = clock 0 ∷ run room room ∷ next ∷ []} (another {cs = []} no-rounds first-round) second-round)
+    wound {n = secondOver} {n′ = secondOver} opening (clock 0 ∷ run room room ∷ clock 200000 ∷ next ∷ next ∷ end 0 false ∷ run room room ∷ []) []
+    (another {cs = clock 0 ∷ run room room ∷ []} (another {cs = []} no-rounds first-round) second-round)
     empty
 
 pub sample-formed : tableFormed lone ≡ true
-unfolding room opening allStopped firstRead firstQuiet firstOver secondRead killed secondQuiet secondReported secondOver some every first listed hasBit within reach cyclic settingsAt freshState recordAt withRecord hardLinks strongLinks allLinks hard strong soft depends blocked needed tableFormed shapedAt stateFormed formed each startReaches afterStart afterStop afterStopAll endedAs afterEnd afterClock due fits lostToUser leaves hands chosenFrom chosen act actOn nextAction stateAfter actionAfter stepsToQuiet written writtenServices writtenActions check outcome deadlineKill readBack marksOf marks fed accepted eventless nowAfter nowAt
+unfolding room opening allStopped firstRead firstQuiet secondRead killed secondQuiet secondReported secondOver some every first listed hasBit within reach cyclic settingsAt freshState recordAt withRecord hardLinks strongLinks allLinks hard strong soft depends blocked needed tableFormed shapedAt stateFormed formed each startReaches afterStart afterStop afterStopAll endedAs afterEnd afterClock due fits lostToUser leaves hands chosenFrom chosen act actOn nextAction stateAfter actionAfter stepsToQuiet written writtenServices writtenActions check outcome deadlineKill readBack momentsBy moments fed accepted eventless nowAfter nowAt
 sample-formed = refl
 
 pub sample-timeouts : NoZeroTimeout lone
@@ -119,8 +120,8 @@ sample-timeouts = only (λ i. (settingsAt lone i .«start_timeout» ≢ 0) × (s
 
 -- in it the KILL is a deadline's, by the rules' state before it, and the theorem speaks of it
 pub sample-killed : secondQuiet .sentKill 0 ≡ true
-unfolding room opening allStopped firstRead firstQuiet firstOver secondRead killed secondQuiet secondReported secondOver some every first listed hasBit within reach cyclic settingsAt freshState recordAt withRecord hardLinks strongLinks allLinks hard strong soft depends blocked needed tableFormed shapedAt stateFormed formed each startReaches afterStart afterStop afterStopAll endedAs afterEnd afterClock due fits lostToUser leaves hands chosenFrom chosen act actOn nextAction stateAfter actionAfter stepsToQuiet written writtenServices writtenActions check outcome deadlineKill readBack marksOf marks fed accepted eventless nowAfter nowAt
+unfolding room opening allStopped firstRead firstQuiet secondRead killed secondQuiet secondReported secondOver some every first listed hasBit within reach cyclic settingsAt freshState recordAt withRecord hardLinks strongLinks allLinks hard strong soft depends blocked needed tableFormed shapedAt stateFormed formed each startReaches afterStart afterStop afterStopAll endedAs afterEnd afterClock due fits lostToUser leaves hands chosenFrom chosen act actOn nextAction stateAfter actionAfter stepsToQuiet written writtenServices writtenActions check outcome deadlineKill readBack momentsBy moments fed accepted eventless nowAfter nowAt
 sample-killed = refl
 
-pub sample-down : recordAt (afterCalls lone freshState (start 0 ∷ run room room ∷ stopAll ∷ clock 0 ∷ run room room ∷ next ∷ clock 200000 ∷ next ∷ next ∷ end 0 false ∷ run room room ∷ [])) 0 .phase ≡ Down
+pub sample-down : recordAt (afterCalls lone freshState (start 0 ∷ run room room ∷ stopAll ∷ clock 0 ∷ run room room ∷ clock 200000 ∷ next ∷ next ∷ end 0 false ∷ run room room ∷ [])) 0 .phase ≡ Down
 sample-down = demand3 lone sample-formed _ .down sample-timeouts sample 0 (lit< tt)

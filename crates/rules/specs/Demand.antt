@@ -25,14 +25,24 @@ use Rattle.rules.specs.Dependencies.{hardLinks}
 use Rattle.rules.specs.WellFormed.{tableFormed, formed}
 use Rattle.rules.specs.Rules.{chosen}
 use Rattle.rules.specs.Runs.{stateAfter, actionAfter}
-use Rattle.rules.specs.Calls.{Call, start, stop, clock, end, stopAll, next, query, run, Answer, refused, done, acted, ran, told, outcome, afterCalls}
+use Rattle.rules.specs.Calls.{Call, start, stop, clock, end, stopAll, next, query, run, Answer, refused, done, acted, ran, told, Outcome, outcome, afterCalls}
 
--- ---- the calls with their answers, in order
+-- ---- a list of calls as moments, in order
 
--- an action handed out, with whether it is a deadline's KILL; an accepted end of a service
+-- an action handed out, with whether it is a deadline's KILL; an accepted end of a service; an accepted start; any other accepted event
 pub data Mark : Type 0 where
   handed : Action → Bool → Mark
   ended : ℕ → Mark
+  began passed : Mark
+
+-- one for each accepted event and for each single action, those of a run too, with the states around it
+pub record Moment : Type 0 where
+  pub mark : Mark
+  pub before : State
+  pub after : State
+
+abbrev pub moment : Mark → State → State → Moment
+moment k x y = record { mark = k; before = x; after = y }
 
 -- "a deadline's KILL is rule 8's": told by the rules' state before the action
 abbrev pub killsBy : Choice → State → Bool
@@ -49,31 +59,47 @@ killsBy (Fit Expire s) x = isEnding (recordAt x s .phase)
 unfoldable pub deadlineKill : Table → State → Bool
 deadlineKill t x = killsBy (chosen t x) x
 
--- a run's actions are read back from the places that it filled, one by one
-unfoldable pub readBack : Table → State → List ℕ → List ℕ → ℕ → List Mark
+-- a run's actions are read back from the places that it filled, one by one, each between the states around it
+unfoldable pub readBack : Table → State → List ℕ → List ℕ → ℕ → List Moment
 readBack t x ss as′ n =
-    listed (λ i. handed (actionOf (getD ss i 0) (getD as′ i 0)) (deadlineKill t (stateAfter t x i))) n
+    listed
+    (λ i.
+    moment (handed (actionOf (getD ss i 0) (getD as′ i 0)) (deadlineKill t (stateAfter t x i))) (stateAfter t x i) (stateAfter t x (suc i)))
+    n
 
-unfoldable pub marksOf : Table → State → Call → Answer → List ℕ → List ℕ → List Mark
-marksOf t x c (refused k) ss as′ = []
-marksOf t x c (acted a) ss as′ = handed a (deadlineKill t x) ∷ []
-marksOf t x c (ran n) ss as′ = readBack t x ss as′ n
-marksOf t x c (told d) ss as′ = []
-marksOf t x (start s) done ss as′ = []
-marksOf t x (stop s) done ss as′ = []
-marksOf t x (clock c) done ss as′ = []
-marksOf t x (end s good) done ss as′ = ended s ∷ []
-marksOf t x stopAll done ss as′ = []
-marksOf t x next done ss as′ = []
-marksOf t x query done ss as′ = []
-marksOf t x (run a b) done ss as′ = []
+abbrev pub eventMark : Call → Mark
+eventMark (start s) = began
+eventMark (stop s) = passed
+eventMark (clock c) = passed
+eventMark (end s good) = ended s
+eventMark stopAll = passed
+eventMark next = passed
+eventMark query = passed
+eventMark (run ss as′) = passed
 
-unfoldable pub marks : Table → State → Call → List Mark
-marks t x c = marksOf t x c (outcome t x c .answer) (outcome t x c .services) (outcome t x c .actions)
+-- by the answer: none for a refusal or a query
+unfoldable pub momentsBy : Answer → Table → State → Call → Outcome → List Moment
+momentsBy (refused k) t x c o = []
+momentsBy done t x c o = moment (eventMark c) x (o .state) ∷ []
+momentsBy (acted a) t x c o = moment (handed a (deadlineKill t x)) x (o .state) ∷ []
+momentsBy (ran n) t x c o = readBack t x (o .services) (o .actions) n
+momentsBy (told d) t x c o = []
 
-unfoldable pub story : Table → State → List Call → List Mark
+unfoldable pub moments : Table → State → Call → List Moment
+moments t x c = momentsBy (outcome t x c .answer) t x c (outcome t x c)
+
+unfoldable pub story : Table → State → List Call → List Moment
 story t x [] = []
-story t x (c ∷ cs) = marks t x c ++ story t (outcome t x c .state) cs
+story t x (c ∷ cs) = moments t x c ++ story t (outcome t x c .state) cs
+
+-- what a value comes to that is fed the moments one by one; and that C holds at each moment, with the value as it is there
+unfoldable pub fed : {A : Type 0} → (Moment → A → A) → List Moment → A → A
+fed f [] v = v
+fed f (m ∷ ms) v = fed f ms (f m v)
+
+unfoldable pub Each : {A : Type 0} → (A → Moment → Type 0) → (Moment → A → A) → A → List Moment → Type 0
+Each C f v [] = Unit {0}
+Each C f v (m ∷ ms) = C v m × Each C f (f m v) ms
 
 -- ---- the record: "a set of services, empty at first"
 
@@ -90,27 +116,33 @@ abbrev pub without : ℕ → Set → Set
 without s v i = not (eqb i s) && v i
 
 -- "a launch or stop command of s puts s in, an accepted end of s takes it out .. all else leave it"
-abbrev pub recorded : Mark → Set → Set
-recorded (handed Quiet k) v = v
-recorded (handed (Moved s) k) v = v
-recorded (handed (Launch s) k) v = with s v
-recorded (handed (StopCommand s) k) v = with s v
-recorded (handed (Signal s g) k) v = v
-recorded (ended s) v = without s v
+abbrev pub recordedBy : Mark → Set → Set
+recordedBy (handed Quiet k) v = v
+recordedBy (handed (Moved s) k) v = v
+recordedBy (handed (Launch s) k) v = with s v
+recordedBy (handed (StopCommand s) k) v = with s v
+recordedBy (handed (Signal s g) k) v = v
+recordedBy (ended s) v = without s v
+recordedBy began v = v
+recordedBy passed v = v
+
+abbrev pub recorded : Moment → Set → Set
+recorded m v = recordedBy (m .mark) v
 
 -- the services whose process was sent a deadline's KILL in its life, from its launch or stop command to its end
-abbrev pub sent : Mark → Set → Set
-sent (handed Quiet k) v = v
-sent (handed (Moved s) k) v = v
-sent (handed (Launch s) k) v = without s v
-sent (handed (StopCommand s) k) v = without s v
-sent (handed (Signal s g) true) v = with s v
-sent (handed (Signal s g) false) v = v
-sent (ended s) v = without s v
+abbrev pub sentBy : Mark → Set → Set
+sentBy (handed Quiet k) v = v
+sentBy (handed (Moved s) k) v = v
+sentBy (handed (Launch s) k) v = without s v
+sentBy (handed (StopCommand s) k) v = without s v
+sentBy (handed (Signal s g) true) v = with s v
+sentBy (handed (Signal s g) false) v = v
+sentBy (ended s) v = without s v
+sentBy began v = v
+sentBy passed v = v
 
-unfoldable pub fed : (Mark → Set → Set) → List Mark → Set → Set
-fed f [] v = v
-fed f (m ∷ ms) v = fed f ms (f m v)
+abbrev pub sent : Moment → Set → Set
+sent m v = sentBy (m .mark) v
 
 -- ---- first half: whenever a launch, a signal or a stop command is handed out for s
 
@@ -122,13 +154,14 @@ ActsOn (StopCommand i) s = i ≡ s
 ActsOn (Signal i g) s = i ≡ s
 
 -- "no service that hard-depends on it, directly or through others, has a live process, by the record"
-abbrev pub Clear : Table → Set → Mark → Type 0
-Clear t v (handed a k) = (s e : ℕ) → ActsOn a s → e < t .count → Path (hardLinks t) e s → v e ≡ false
-Clear t v (ended s) = Unit {0}
+abbrev pub ClearBy : Table → Set → Mark → Type 0
+ClearBy t v (handed a k) = (s e : ℕ) → ActsOn a s → e < t .count → Path (hardLinks t) e s → v e ≡ false
+ClearBy t v (ended s) = Unit {0}
+ClearBy t v began = Unit {0}
+ClearBy t v passed = Unit {0}
 
-unfoldable pub Safe : Table → Set → List Mark → Type 0
-Safe t v [] = Unit {0}
-Safe t v (m ∷ ms) = Clear t v m × Safe t (recorded m v) ms
+abbrev pub Clear : Table → Set → Moment → Type 0
+Clear t v m = ClearBy t v (m .mark)
 
 -- ---- second half: at most 4n actions before quiet, where no event falls between
 
@@ -167,7 +200,7 @@ unfoldable pub eventless : Table → State → List Call → Bool
 eventless t x [] = true
 eventless t x (c ∷ cs) = not (isEvent c && accepted t x c) && eventless t (outcome t x c .state) cs
 
--- the actions among the marks, mere moves counted
+-- the actions among the moments, mere moves counted
 abbrev pub isAction : Mark → ℕ
 isAction (handed Quiet k) = 0
 isAction (handed (Moved s) k) = 1
@@ -175,10 +208,12 @@ isAction (handed (Launch s) k) = 1
 isAction (handed (StopCommand s) k) = 1
 isAction (handed (Signal s g) k) = 1
 isAction (ended s) = 0
+isAction began = 0
+isAction passed = 0
 
-unfoldable pub actionsIn : List Mark → ℕ
+unfoldable pub actionsIn : List Moment → ℕ
 actionsIn [] = 0
-actionsIn (m ∷ ms) = isAction m + actionsIn ms
+actionsIn (m ∷ ms) = isAction (m .mark) + actionsIn ms
 
 -- from the state x: at most 4n actions come along any calls with no accepted event among them, and quiet comes
 pub record Rests (t : Table) (x : State) : Type 0 where
@@ -199,8 +234,8 @@ freshNow = record { state = freshState; live = nobody; sentKill = nobody }
 unfoldable pub nowAfter : Table → Now → Call → Now
 nowAfter t n c = record {
   state = outcome t (n .state) c .state;
-  live = fed recorded (marks t (n .state) c) (n .live);
-  sentKill = fed sent (marks t (n .state) c) (n .sentKill);
+  live = fed recorded (moments t (n .state) c) (n .live);
+  sentKill = fed sent (moments t (n .state) c) (n .sentKill);
 }
 
 -- calls, none of them an accepted start, and where they lead
@@ -209,12 +244,12 @@ pub data Stretch (t : Table) : Now → List Call → Now → Type 0 where
   call : {n n′ : Now} {cs : List Call} (c : Call) → (isStart c && accepted t (n .state) c) ≡ false
       → Stretch t (nowAfter t n c) cs n′ → Stretch t n (c ∷ cs) n′
 
--- "Actions go to quiet by an accepted run, or singly with no event between": the last answer is quiet
-pub data ToQuiet (t : Table) : Now → List Call → Now → Type 0 where
-  by-run : {n : Now} (ss as′ : List ℕ) → accepted t (n .state) (run ss as′) ≡ true
-      → ToQuiet t n (run ss as′ ∷ []) (nowAfter t n (run ss as′))
-  singly : {n n′ : Now} {cs : List Call} → Stretch t n cs n′ → eventless t (n .state) cs ≡ true
-      → outcome t (n′ .state) next .answer ≡ acted Quiet → ToQuiet t n (cs ++ (next ∷ [])) (nowAfter t n′ next)
+-- "Actions go to quiet": calls with no accepted event among them, after which the next action would be answered quiet. That an accepted run
+-- does so, and single actions of which the last is answered quiet, is shown in proofs/ToQuiet.antt; where all is quiet already no call is needed
+pub record ToQuiet (t : Table) (n : Now) (cs : List Call) (n′ : Now) : Type 0 where
+  pub calls : Stretch t n cs n′
+  pub between : eventless t (n .state) cs ≡ true
+  pub quiet : outcome t (n′ .state) next .answer ≡ acted Quiet
 
 -- an accepted end of s stands among the calls
 pub data Reported (t : Table) (s : ℕ) : Now → List Call → Type 0 where
@@ -258,7 +293,9 @@ NoZeroTimeout t =
 -- ---- THE STATEMENT
 
 pub record Holds (t : Table) (cs : List Call) : Type 0 where
-  pub safe : Safe t nobody (story t freshState cs)
+  pub safe : Each (Clear t) recorded nobody (story t freshState cs)
+  -- "While in it, s has a live process": the record is the state's live flags
+  pub live : (s : ℕ) → s < t .count → fed recorded (story t freshState cs) nobody s ≡ recordAt (afterCalls t freshState cs) s .live
   pub rests : Rests t (afterCalls t freshState cs)
   pub down : NoZeroTimeout t → WoundDown t cs → (s : ℕ) → s < t .count → recordAt (afterCalls t freshState cs) s .phase ≡ Down
 
