@@ -19,6 +19,7 @@ use Rattle.service.specs.declared.Form.the-variants.{Bare, Passing, Direct, Del
 use Rattle.service.specs.declared.Phase.{Phase}
 use Rattle.service.specs.declared.Phase.the-variants.{Ending}
 use Rattle.service.specs.declared.Record.{Record}
+use Rattle.service.specs.declared.Settings.{Settings}
 use Rattle.service.specs.declared.State.{State}
 use Rattle.service.specs.declared.Table.{Table}
 use Rattle.service.proofs.Finite.{bools, finite, given, forms, phases}
@@ -46,11 +47,11 @@ abbrev pub heavyAt : ℕ → Record → Bool
 heavyAt now r = heavy (r .phase) (isNone (r .cause)) (due now (r .deadline)) (r .killed)
 
 unfoldable pub weighLast : Weight
-weighLast now r = pick (heavyAt now r) 1 0
+weighLast v now r = pick (heavyAt now r) 1 0
 
-drops : (now : ℕ) (r′ r : Record) → heavyAt now r′ ≡ false → heavyAt now r ≡ true → weighLast now r′ < weighLast now r
+drops : (v : Settings) (now : ℕ) (r′ r : Record) → heavyAt now r′ ≡ false → heavyAt now r ≡ true → weighLast v now r′ < weighLast v now r
 unfolding weighLast
-drops now r′ r e f = rw (e, f) (lit< tt)
+drops v now r′ r e f = rw (e, f) (lit< tt)
 
 pub starting-deadline : (k : Form) (a b : Deadline) → startsFirst k ≡ true → begunDeadline k a b ≡ a
 starting-deadline Bare a b e = no-ft e
@@ -153,11 +154,12 @@ module _ (t : Table) (x : State) (s : ℕ) (i : LastStage t x) (sl : s < t .coun
   kept k f c = record { any = any-rule t x k s (i .any) sl f; before = before-with t x s (leaves k t x s) (i .any .sized) room c (i .before) }
 
   -- and the record is lighter
-  begin-falls : fits Begin t x s ≡ true → weighLast (x .clock) (leaves Begin t x s) < weighLast (x .clock) (recordAt x s)
+  begin-falls : fits Begin t x s ≡ true → weighLast (settingsAt t s) (x .clock) (leaves Begin t x s) < weighLast (settingsAt t s) (x .clock) (recordAt x s)
   unfolding leaves shapedAt
   begin-falls f =
       let m = begin-fits t x s .0 f in
       drops
+      (settingsAt t s)
       (x .clock)
       (leaves Begin t x s)
       (recordAt x s)
@@ -175,22 +177,24 @@ module _ (t : Table) (x : State) (s : ℕ) (i : LastStage t x) (sl : s < t .coun
       ∙ not-due (x .clock) (settingsAt t s .«start_timeout»))))))
       (rw (is-waiting (recordAt x s .phase) (m .waits)))
 
-  end-falls : fits End t x s ≡ true → weighLast (x .clock) (leaves End t x s) < weighLast (x .clock) (recordAt x s)
+  end-falls : fits End t x s ≡ true → weighLast (settingsAt t s) (x .clock) (leaves End t x s) < weighLast (settingsAt t s) (x .clock) (recordAt x s)
   unfolding leaves
   end-falls f =
       let m = end-fits t x s .0 f in
       drops
+      (settingsAt t s)
       (x .clock)
       (leaves End t x s)
       (recordAt x s)
       (rw (not-due (x .clock) (settingsAt t s .«stop_timeout»)))
       (rw (is-up (recordAt x s .phase) (m .up), m .caused))
 
-  expire-falls : fits Expire t x s ≡ true → weighLast (x .clock) (leaves Expire t x s) < weighLast (x .clock) (recordAt x s)
+  expire-falls : fits Expire t x s ≡ true → weighLast (settingsAt t s) (x .clock) (leaves Expire t x s) < weighLast (settingsAt t s) (x .clock) (recordAt x s)
   unfolding leaves
   expire-falls f =
       let m = expire-fits t x s .0 f in
       drops
+      (settingsAt t s)
       (x .clock)
       (leaves Expire t x s)
       (recordAt x s)
@@ -207,7 +211,7 @@ last-turn t x i = either (next-either t x) (stays-still t (LastStage t) (total w
     early : (k : Rule) (s : ℕ) → Fires t x k s → place k < 5 → Turn t (LastStage t) (total weighLast t) x
     early k s f l = absurd (not-both (f .lowest .passes) (i .before k l s (f .lowest .bound)))
 
-    late : (k : Rule) (s : ℕ) → Fires t x k s → LastStage t (withRecord x s (leaves k t x s)) → weighLast (x .clock) (leaves k t x s) < weighLast (x .clock) (recordAt x s)
+    late : (k : Rule) (s : ℕ) → Fires t x k s → LastStage t (withRecord x s (leaves k t x s)) → weighLast (settingsAt t s) (x .clock) (leaves k t x s) < weighLast (settingsAt t s) (x .clock) (recordAt x s)
         → Turn t (LastStage t) (total weighLast t) x
     late k s f j l =
         fired-lighter t (LastStage t) (total weighLast t) x k s f j (total-with weighLast t x s (leaves k t x s) (i .any .sized) (i .any .few) (f .lowest .bound) l)

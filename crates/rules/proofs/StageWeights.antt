@@ -38,13 +38,13 @@ releaseWeight Up none = pick none 2 1
 releaseWeight Ending none = 1
 
 unfoldable pub weighAny : Weight
-weighAny now r = anyWeight (r .phase) (isNone (r .cause)) (r .aside)
+weighAny v now r = anyWeight (r .phase) (isNone (r .cause)) (r .aside)
 
 unfoldable pub weighTidy : Weight
-weighTidy now r = tidyWeight (r .phase) (isNone (r .cause)) (r .aside)
+weighTidy v now r = tidyWeight (r .phase) (isNone (r .cause)) (r .aside)
 
 unfoldable pub weighRelease : Weight
-weighRelease now r = releaseWeight (r .phase) (isNone (r .cause))
+weighRelease v now r = releaseWeight (r .phase) (isNone (r .cause))
 
 -- rule 1 lowers the first weight; rules 2, 3 and 4 the second; rules 3 and 5 the third
 test-lose-lighter : phases (λ p. causes (λ c. bools (λ b. bools (λ a. given (isStarting p || isUp p) (given (isNone c) (ltb (anyWeight p (isNone (pick b User Fell)) a) (anyWeight p (isNone c) a))))))) ≡ true

@@ -79,11 +79,11 @@ module _ (t : Table) (x : State) (i : ReleaseStage t x) where
         props = λ a d dl h. i .clean s d sl dl h (released-running (recordAt x s .phase) (recordAt x s .cause) (m .on) (m .nil) a);
       }
 
-  settle-less : (s : ℕ) → fits Settle t x s ≡ true → weighRelease (x .clock) (leaves Settle t x s) < weighRelease (x .clock) (recordAt x s)
+  settle-less : (s : ℕ) → fits Settle t x s ≡ true → weighRelease (settingsAt t s) (x .clock) (leaves Settle t x s) < weighRelease (settingsAt t s) (x .clock) (recordAt x s)
   unfolding leaves weighRelease
   settle-less s p = ltb-true _ _ (unneeded-lighter (recordAt x s .phase) (isNone (recordAt x s .cause)) (settle-fits t x s .0 p .up))
 
-  release-less : (s : ℕ) → fits Release t x s ≡ true → weighRelease (x .clock) (leaves Release t x s) < weighRelease (x .clock) (recordAt x s)
+  release-less : (s : ℕ) → fits Release t x s ≡ true → weighRelease (settingsAt t s) (x .clock) (leaves Release t x s) < weighRelease (settingsAt t s) (x .clock) (recordAt x s)
   unfolding leaves weighRelease
   release-less s p = let m = release-fits t x s .0 p in ltb-true _ _ (release-lighter (recordAt x s .phase) (recordAt x s .cause) (m .on) (m .nil))
 
@@ -91,7 +91,7 @@ module _ (t : Table) (x : State) (i : ReleaseStage t x) where
   unfolding weighLast weighRelease
   last-le =
       total-le weighLast weighRelease t x
-      (λ r. leb-true _ _ (last-release (r .phase) (isNone (r .cause)) (due (x .clock) (r .deadline)) (r .killed)))
+      (λ v r. leb-true _ _ (last-release (r .phase) (isNone (r .cause)) (due (x .clock) (r .deadline)) (r .killed)))
 
   to-last : Before t x 5 → Turn t (ReleaseStage t) (total weighRelease t) x
   to-last b = later (ends-more t (last-rests t x record { any = i .any; before = b }) _ last-le)
@@ -102,7 +102,7 @@ module _ (t : Table) (x : State) (i : ReleaseStage t x) where
       out : (k : Rule) (s : ℕ) → Fires t x k s → Nowhere t x k → Turn t (ReleaseStage t) (total weighRelease t) x
       out k s f n = absurd (not-both (f .lowest .passes) (n s (f .lowest .bound)))
 
-      falls : (k : Rule) (s : ℕ) (f : Fires t x k s) → Fall t x s (leaves k t x s) i (f .lowest .bound) → weighRelease (x .clock) (leaves k t x s) < weighRelease (x .clock) (recordAt x s)
+      falls : (k : Rule) (s : ℕ) (f : Fires t x k s) → Fall t x s (leaves k t x s) i (f .lowest .bound) → weighRelease (settingsAt t s) (x .clock) (leaves k t x s) < weighRelease (settingsAt t s) (x .clock) (recordAt x s)
           → Turn t (ReleaseStage t) (total weighRelease t) x
       falls k s f c l =
           let sl = f .lowest .bound in
@@ -137,7 +137,7 @@ module _ (t : Table) (x : State) (i : TidyStage t x) where
 
   release-le : total weighRelease t x ≤ total weighTidy t x
   unfolding weighRelease weighTidy
-  release-le = total-le weighRelease weighTidy t x (λ r. leb-true _ _ (release-tidy (r .phase) (isNone (r .cause)) (r .aside)))
+  release-le = total-le weighRelease weighTidy t x (λ v r. leb-true _ _ (release-tidy (r .phase) (isNone (r .cause)) (r .aside)))
 
   to-release : Before t x 4 → Turn t (TidyStage t) (total weighTidy t) x
   to-release b =
@@ -158,7 +158,7 @@ module _ (t : Table) (x : State) (i : TidyStage t x) where
   unfolding leaves weighTidy
   tidy-turn = either (next-either t x) (stays-still t (TidyStage t) (total weighTidy t) x) (λ k. go (k .0) (k .1) (k .2))
     where
-      falls : (k : Rule) (s : ℕ) → Fires t x k s → running (leaves k t x s) ≡ false → serving (recordAt x s) ≡ false → weighTidy (x .clock) (leaves k t x s) < weighTidy (x .clock) (recordAt x s)
+      falls : (k : Rule) (s : ℕ) → Fires t x k s → running (leaves k t x s) ≡ false → serving (recordAt x s) ≡ false → weighTidy (settingsAt t s) (x .clock) (leaves k t x s) < weighTidy (settingsAt t s) (x .clock) (recordAt x s)
           → Turn t (TidyStage t) (total weighTidy t) x
       falls k s f o d l =
           let sl = f .lowest .bound in
@@ -194,11 +194,11 @@ tidy-rests t x i = stage t (TidyStage t) (total weighTidy t) (tidy-turn t) (tota
 module _ (t : Table) (x : State) (i : AnyStage t x) where
   tidy-le : total weighTidy t x ≤ total weighAny t x
   unfolding weighTidy weighAny
-  tidy-le = total-le weighTidy weighAny t x (λ r. leb-true _ _ (tidy-any (r .phase) (isNone (r .cause)) (r .aside)))
+  tidy-le = total-le weighTidy weighAny t x (λ v r. leb-true _ _ (tidy-any (r .phase) (isNone (r .cause)) (r .aside)))
 
   any-le : total weighAny t x ≤ 4 * t .count
   unfolding weighAny
-  any-le = total-bound weighAny 4 t x (λ r. leb-true _ _ (any-four (r .phase) (isNone (r .cause)) (r .aside)))
+  any-le = total-bound weighAny 4 t x (λ v r. leb-true _ _ (any-four (r .phase) (isNone (r .cause)) (r .aside)))
 
   to-tidy : Nowhere t x Lose → Turn t (AnyStage t) (total weighAny t) x
   to-tidy n = later (ends-more t (tidy-rests t x record { any = i; clean = tidy t x n }) _ tidy-le)
