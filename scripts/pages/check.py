@@ -43,7 +43,9 @@ PROMISED = [
     ('Holds', 'crates/rules/specs/Demand.antt', 'pub record Holds (t : Table) (cs : List Call) : Type 0 where'),
     ('demand3', 'crates/rules/proofs/Demand.antt', 'pub demand3 : Demand3'),
     ('always-safe', 'crates/rules/proofs/Safety.antt',
-     'pub always-safe : (t : Table) → tableFormed t ≡ true → (cs : List Call) → Safe t nobody (story t freshState cs)'),
+     'pub always-safe : (t : Table) → tableFormed t ≡ true → (cs : List Call) → Each (Clear t) recorded nobody (story t freshState cs)'),
+    ('always-live', 'crates/rules/proofs/Safety.antt',
+     'fed recorded (story t freshState cs) nobody s ≡ recordAt (afterCalls t freshState cs) s .live'),
     ('rests-everywhere', 'crates/rules/proofs/Resting.antt', 'pub rests-everywhere : RestsEverywhere'),
     ('all-down', 'crates/rules/proofs/Rounds.antt', 'pub all-down : {n n′ : Now} {cs : List Call} → Rounds t (suc (t .count)) n cs n′'),
     ('always-formed', 'crates/rules/proofs/Formed.antt', 'pub always-formed : AlwaysFormed'),
@@ -54,8 +56,14 @@ PROMISED = [
 # Where the statement stands that the auditor's page prints.
 STATED = ['crates/guarantee/specs/Guarantee.antt', 'crates/rules/specs/Demand.antt']
 
+# The file of demand 3, its statements, and the heading of its list of what they rest on.
+STATEMENT = 'crates/rules/specs/Demand.antt'
+STATEMENTS = ['Holds', 'Demand3', 'RestsEverywhere', 'AlwaysFormed']
+RESTS_ON = '-- ---- WHAT THE STATEMENT RESTS ON'
+
 # The words of the demands whose definitions must stand on the auditor's page.
-WORDS = ['Call', 'afterCalls', 'freshState', 'accepted', 'Mark', 'story', 'ActsOn', 'recorded', 'Path', 'hardLinks', 'Clear', 'Safe', 'Rests',
+WORDS = ['Call', 'afterCalls', 'freshState', 'accepted', 'Moment', 'Mark', 'story', 'ActsOn', 'recorded', 'fed', 'Path', 'hardLinks', 'Clear', 'Each',
+         'Rests',
          'eventless', 'actionsIn', 'deadlineKill', 'sent', 'ToQuiet', 'Round', 'Rounds', 'WoundDown', 'NoZeroTimeout', 'fits', 'leaves', 'hands',
          'chosen', 'nextAction', 'formed', 'gives', 'check', 'refusedWith', 'positioned', 'namesFrom', 'sizesFrom', 'descriptionsFrom', 'textRead',
          'servicesFrom', 'lowestCyclic', 'stored', 'settingsOf', 'refusalNumber']
@@ -122,6 +130,7 @@ class Check:
         self.names()
         self.statements()
         self.definitions()
+        self.rests_on()
         self.edits()
         self.contracts()
         self.host()
@@ -202,6 +211,20 @@ class Check:
             for file in self.tree.rests_on(start):
                 if f'`{file}`' not in self.whole[AUDIT]:
                     self.fault(AUDIT, f'nothing is said of {file}, on which {start} rests')
+
+    def rests_on(self):
+        """The list at the end of the statement's file has every definition that the statement comes down to, and no other."""
+        text = self.tree.text(STATEMENT)
+        listed, file = set(), None
+        for line in text[text.rfind(RESTS_ON):].split('\n'):
+            row = re.match(r'-- (?:(\w+)/(\w+)| ) +(\S.*)$', line)
+            if row:
+                file = f'crates/{row.group(1)}/specs/{row.group(2)}.antt' if row.group(1) else file
+                listed |= {(file, name) for name in re.findall(NAME, row.group(3))}
+        for file, name in self.tree.comes_down_to(STATEMENT, STATEMENTS) - listed:
+            self.fault(STATEMENT, f'its list leaves out {name} of {file}')
+        for file, name in listed - self.tree.comes_down_to(STATEMENT, STATEMENTS):
+            self.fault(STATEMENT, f'its list has {name} of {file}, which the statement does not rest on')
 
     def edits(self):
         """The must-fail edits of the tree and those of the page are the same, each with its path in one row."""

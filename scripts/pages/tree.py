@@ -14,6 +14,9 @@ NAME = r"[A-Za-z][\w\-·′″₀]*"
 WORDS = r'(?:abbrev |unfoldable )?(?:pub )?'
 TYPE = re.compile(r'(?m)^\s*' + WORDS + r'(?:data|record) (' + NAME + ')')
 SIGNATURE = re.compile(r'(?m)^\s*' + WORDS + '(' + NAME + '(?: ' + NAME + ')*) : ')
+DEFINED = re.compile(r'(?m)^' + WORDS + '(?:(?:data|record) (' + NAME + ')|(' + NAME + ') : )')
+PART = re.compile(r'(?m)^  (?:pub )?(' + NAME + '(?: ' + NAME + ')*) : ')
+IMPORTED = re.compile(r'(?m)^use Rattle·(\w+?)(?:·specs\.specs|\.specs)\.(?!declared)(\w+)\.\{([^}]*)\}')
 FUNCTION = re.compile(r'(?m)^[ \t]*(pub )?(?:extern "C" )?fn (\w+)')
 
 
@@ -136,3 +139,49 @@ class Tree:
             for crate, module in re.findall(r'(?m)^use Rattle·(\w+?)(?:·specs\.specs|\.specs)\.(\w+)', self.bare(at)):
                 left.append(f'crates/{crate}/src/lib.rt' if module == 'declared' else f'crates/{crate}/specs/{module}.antt')
         return sorted(met)
+
+    def definitions(self, path):
+        """Each definition of a file by name, with its text: from its signature to the next one."""
+        text = self.bare(path)
+        heads = [(m.group(1) or m.group(2), m.start()) for m in DEFINED.finditer(text)]
+        ends = [start for _, start in heads[1:]] + [len(text)]
+        found = {}
+        for (name, start), end in zip(heads, ends):
+            found[name] = found.get(name, '') + text[start:end]
+        return found
+
+    def brought_in(self, path):
+        """What each name that a file of definitions imports is: the file that declares it, and its name there."""
+        found = {}
+        for crate, module, names in IMPORTED.findall(self.bare(path)):
+            for name in names.split(','):
+                there, _, here = name.partition(' as ')
+                found[here.strip() or there.strip()] = (f'crates/{crate}/specs/{module}.antt', there.strip())
+        return found
+
+    def comes_down_to(self, path, names):
+        """All definitions that those of a file come down to, through every file of definitions: (file, name)."""
+        met, left, files = set(), [(path, name) for name in names], {}
+        while left:
+            at = left.pop()
+            file, name = at
+            if at in met:
+                continue
+            if file not in files:
+                types = {}
+                for kind, text in self.definitions(file).items():
+                    if re.match(r'(?:pub )?(?:data|record) ', text):
+                        types.update({part: kind for parts in PART.findall(text) for part in parts.split()})
+                files[file] = (self.definitions(file), self.brought_in(file), types)
+            here, imports, types = files[file]
+            if name not in here:
+                # a constructor, which stands for its type
+                left += [(file, types[name])] if name in types else []
+                continue
+            met.add(at)
+            for word in set(re.findall(NAME, here[name])):
+                if word in here:
+                    left.append((file, word))
+                elif word in imports:
+                    left.append(imports[word])
+        return met

@@ -313,26 +313,35 @@ RestsEverywhere = (t : Table) (x : State) → length (x .records) ≡ maxService
 abbrev pub AlwaysFormed : Type 0
 AlwaysFormed = (t : Table) → tableFormed t ≡ true → (cs : List Call) → formed t (afterCalls t freshState cs) ≡ true
 
--- ---- WHAT THE STATEMENT RESTS ON, and where it stands
+-- ---- WHAT THE STATEMENT RESTS ON, and where it stands: every definition that it comes down to, by file. scripts/check_docs holds this list to
+-- what the definitions name.
 --
 -- Proved in proofs/Demand.antt (demand3), proofs/Resting.antt (rests-everywhere), proofs/Formed.antt (always-formed);
 -- inhabited in proofs/Sample.antt (sample, sample-down).
 --
--- here              Mark, killsBy, deadlineKill, readBack, marksOf, marks, story; Set, nobody, with, without, recorded, sent, fed;
---                   ActsOn, Clear, Safe; isRefused, isEvent, isStart, accepted, eventless, isAction, actionsIn, Rests;
---                   Now, freshNow, nowAfter, nowAt, Stretch, ToQuiet, Reported, Round, Rounds, WoundDown, NoZeroTimeout, Holds
--- Calls.antt        Call, Answer, Outcome, lentServices, lentActions, gives, check, outcome, afterCalls
--- Runs.antt         stateAfter, actionAfter, stepsToQuiet, written, writtenServices, writtenActions, above, sooner, soonerOf, earliest
--- Rules.antt        running, nothingToEnd, due, deadlineIn, fits; lostToUser, abandoned, withPhase, released, begun.., ending, expired,
---                   leftBy, leaves; begunAction, termAction, endAction, expiredAction, handedBy, hands; rules, chosenFrom, chosen, Step,
---                   act, actOn, nextAction
--- Events.antt       each, startReaches, revivedCause, startedAs, afterStart; stoppedPhase, stopped, afterStop, afterStopAll; dead,
---                   startedUp, withCause, endedAs, afterEnd; afterClock
--- Settling.antt     windowOver, windowNow, countNow, limitReached, settledWanted, settledAside, settledNotBefore, settledWindow,
---                   settledCount, settledAs, settled
--- WellFormed.antt   linksInside, settingsInRange, tableFormed, deadlineInRange, timesInRange, shaped, shapedAt, stateFormed, formed
--- Dependencies.antt hardLinks, strongLinks, allLinks, hard, strong, soft, depends, serving, closing, barred, blocked, needed
--- service           the declared types (src/lib.rt); Limits, Settings (strongOf, linksOf, settingsAt, isProcess, isScripted), Records (isDown .. isUser, active,
---                   freshRecord, freshState, recordAt, withRecord), Numbers (signalAt, isQuiet, actionService, actionNumber, actionOf)
--- base              Folds (pick, implies, fold, some, every, firstFrom, first, listed), Sets (hasBit, within), Links (Path, through, reach, cyclic)
--- the library       lists (getD, set, length, replicate), numbers and their tests (leb, ltb, eqb, bitOr), Bool
+-- rules/Demand          Mark, Moment, moment, killsBy, deadlineKill, readBack, eventMark, momentsBy, moments, story, fed, Each, Set, nobody, with,
+--                       without, recordedBy, recorded, sentBy, sent, ActsOn, ClearBy, Clear, isRefused, isEvent, isStart, accepted, eventless,
+--                       isAction, actionsIn, Rests, Now, freshNow, nowAfter, Stretch, ToQuiet, Reported, Round, Rounds, nowAt, WoundDown,
+--                       NoZeroTimeout, Holds, Demand3, RestsEverywhere, AlwaysFormed
+-- rules/Calls           Call, Answer, Outcome, lentServices, lentActions, gives, check, outcome, afterCalls
+-- rules/Runs            stateAfter, actionAfter, stepsToQuiet, written, writtenServices, writtenActions, above, sooner, soonerOf, earliest
+-- rules/Rules           running, nothingToEnd, due, deadlineIn, fits, lostToUser, abandoned, released, begunPhase, begunLive, begunDeadline, begun,
+--                       ending, expired, leftBy, leaves, begunAction, termAction, endAction, expiredAction, handedBy, hands, Step, rules,
+--                       chosenFrom, chosen, act, actOn, nextAction
+-- rules/Events          each, startReaches, revivedCause, startedAs, afterStart, stoppedPhase, stopped, afterStop, afterStopAll, dead, startedUp,
+--                       brings, endedAs, afterEnd, afterClock
+-- rules/Settling        windowOver, windowNow, countNow, limitReached, settledWanted, settledAside, settledNotBefore, settledWindow, settledCount,
+--                       settledAs, settled
+-- rules/WellFormed      linksInside, settingsInRange, tableFormed, deadlineInRange, timesInRange, shaped, shapedAt, stateFormed, formed
+-- rules/Dependencies    hardLinks, strongLinks, allLinks, hard, strong, soft, depends, serving, closing, barred, blocked, needed
+-- service/Limits        maxServices, longestTime, maxCount, lastClock, lastTime
+-- service/Settings      formOfKind, formOf, isPassing, startsFirst, livesUp, strongOf, linksOf, noSettings, settingsAt
+-- service/Records       isDown, isWaiting, isStarting, isUp, isEnding, active, isNone, isUser, freshRecord, remade, moved, flagged, clocked,
+--                       withPhase, withCause, withWanted, withAside, withLive, withKilled, withNotBefore, withLaunch, withWindow, withCount,
+--                       freshState, recordAt, withRecord
+-- service/Numbers       signalNumber, signalAt, isQuiet, actionService, actionNumber, actionOf
+-- base/Folds            pick, implies, fold, some, every, firstFrom, first, listed
+-- base/Sets             hasBit, within
+-- base/Links            Path, through, reach, cyclic
+-- the declared types    in crates/service/src/lib.rt and crates/rules/src/lib.rt
+-- the library           lists (getD, set, length, replicate), numbers and their tests (leb, ltb, eqb, bitOr), Bool
