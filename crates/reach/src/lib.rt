@@ -87,10 +87,14 @@ fn grow(done: u64, m: u64, i: usize, q: bool) -> u64
     done | single_of(i, q)
 }
 
+fn wide(i: u8) -> usize {
+    i as usize
+}
+
 // Each number joins the set once all that it is linked to has: down where that has not, back up by the stack, and from its bottom on to
 // the lowest number that has not joined. Where there is no cycle each number is gone down to at most once and joins once: 2n steps are
 // enough, and fewer than n numbers are on the stack. From n on s tells that all have joined, or that a link leads past n.
-fn all_join(n: usize, rows: &[u64; MAX_ROWS], stack: &mut [usize; MAX_ROWS]) -> bool
+fn all_join(n: usize, rows: &[u64; MAX_ROWS], stack: &mut [u8; MAX_ROWS]) -> bool
     requires { ⌜ n ≤ mostRows ⌝ }
     ensures { λ b. ⌜ AllSafe (now (rows .entry)) n b ⌝ }
 {
@@ -113,10 +117,10 @@ fn all_join(n: usize, rows: &[u64; MAX_ROWS], stack: &mut [usize; MAX_ROWS]) -> 
                 s = lowest_outside(done);
             } else {
                 depth -= 1;
-                s = stack[depth];
+                s = wide(stack[depth]);
             }
         } else {
-            stack[depth] = s;
+            stack[depth] = s as u8;
             depth += 1;
             s = lowest_of(m & !done);
         }
@@ -130,7 +134,7 @@ pub fn has_cycle(n: usize, rows: [u64; MAX_ROWS]) -> bool
     ensures { λ b. ⌜ b ≡ (leb n mostRows && cyclic (rowsAs rows) n) ⌝ }
 {
     if n <= MAX_ROWS {
-        let mut stack = [0usize; MAX_ROWS];
+        let mut stack = [0u8; MAX_ROWS];
         if all_join(n, &rows, &mut stack) {
             return false;
         }
