@@ -77,6 +77,14 @@ pub sought : (p : ℕ → Bool) (n : ℕ) → Sought p n (first p n)
 unfolding first
 sought p n = sought-from p n 0 n (omega arith) (λ j l. absurd (not-suc-le-zero l))
 
+-- p holds at no number that the search has passed
+pub before-first : (p : ℕ → Bool) (n j : ℕ) → j < first p n → p j ≡ false
+before-first p n j l = go (sought p n) l
+  where
+    go : {s : ℕ} → Sought p n s → j < s → p j ≡ false
+    go (found w) k = w .first j k
+    go (nowhere h) k = h j k
+
 from-as : (p q : ℕ → Bool) (k i : ℕ) → ((j : ℕ) → j < i + k → p j ≡ q j) → firstFrom p k i ≡ firstFrom q k i
 from-as p q zero i h = refl
 from-as p q (suc k) i h = rw (h i (omega arith), from-as p q k (suc i) (λ j l. h j (omega arith)))

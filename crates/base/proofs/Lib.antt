@@ -6,6 +6,7 @@ pub mod Sums
 pub mod Bits
 pub mod Sets
 pub mod Words
+pub mod Zeros
 pub mod Filled
 pub mod Links
 pub mod Lists

@@ -1,12 +1,15 @@
 -- Loops that count up to a bound: an invariant for each kind of fold, and the three laws that its proof cites:
 -- it holds at 0, it holds after one more turn, and what it says at the end.
 -- Each premise is a fact that stands in the place's record as it is, so that `search` finds it with no path.
-use Prim.Native.Nat.{ℕ, suc, _+_, _-_, _≤_, _<_}
+use Prim.Native.Nat.{ℕ, zero, suc, _+_, _-_, _≤_, _<_}
+use native.Mathlib.Nat.{eq-or-lt-of-le, le-refl, lt-suc-self}
 use native.Mathlib.Numerals.{add-one}
 use native.Mathlib.Omega.{arith}
-use mathlib.Core.Path.{_≡_, refl, sym, ap, _∙_}
+use mathlib.Core.Path.{_≡_, refl, sym, ap, _∙_, subst}
 use mathlib.Core.Bool.{Bool, true, false, _||_, _&&_}
 use Rattle.base.specs.Folds.{fold, some, every, firstFrom, first}
+use Rattle.base.proofs.Tests.{either}
+use Rattle.base.proofs.Below.{Lowest}
 
 -- a loop that counts i up to n has b after the steps at the numbers below i
 pub record Folded {A : Type 0} (f : A → ℕ → A) (a : A) (n : ℕ) (b : A) (i : ℕ) : Type 0 where
@@ -75,3 +78,20 @@ module _ {p : ℕ → Bool} {n : ℕ} where
   passed-all {i} h l =
       let s : n - i ≡ 0 = omega arith in
       sym (h .rest ∙ rw s)
+
+  -- a search passes all numbers below i, if p holds at none of them
+  pub passed-below : (i : ℕ) → i ≤ n → ((j : ℕ) → j < i → p j ≡ false) → Passed p n i
+  passed-below zero l h = passed-none
+  passed-below (suc i) l h =
+      let before = passed-below i (omega arith) (λ j k. h j (omega arith)) in
+      subst (Passed p n) (add-one i) (passed-more before l refl (h i (lt-suc-self i)))
+
+  -- the lowest number of another bound that is not past n
+  pub first-lowest : {i k : ℕ} → Lowest p k i → i ≤ n → i ≡ first p n
+  first-lowest {i} w l =
+      let here = passed-below i l (w .first) in
+      either (eq-or-lt-of-le l) (λ (e : i ≡ n). passed-all here (omega arith)) (λ q. passed-hit here q refl (w .passes))
+
+-- so where p holds at no number below n the search comes to n
+pub first-none : (p : ℕ → Bool) (n : ℕ) → ((j : ℕ) → j < n → p j ≡ false) → n ≡ first p n
+first-none p n h = passed-all (passed-below n (le-refl n) h) (le-refl n)

@@ -1,6 +1,7 @@
 -- Sets that a loop gathers as bits, and what is asked of them: the laws that turn a test on sets into a test on services.
 use Prim.Native.Nat.{ℕ, zero, suc, _+_, _*_, _/_, _%_, _^_, _<_}
-use native.Mathlib.Nat.{not-suc-le-zero, le-of-suc-le-suc, le-refl, lt-of-le-of-lt, lt-of-lt-of-le, eq-or-lt-of-le, mod-eq-of-lt, mod-one, one-mul, zero-add, zero-mul, add-zero}
+use native.Mathlib.Nat.{not-suc-le-zero, le-of-suc-le-suc, le-refl, lt-of-le-of-lt, lt-of-lt-of-le, eq-or-lt-of-le}
+use native.Mathlib.Nat.{mod-eq-of-lt, mod-one, one-mul, zero-add, zero-mul}
 use native.Mathlib.Omega.{arith}
 use mathlib.Core.Path.{_≡_, refl, sym, ap, _∙_}
 use mathlib.Core.Bool.{Bool, true, false, _||_, _&&_, not, false≢true}
@@ -8,10 +9,11 @@ use mathlib.Core.Logic.{_⊎_, inl, inr}
 use lib.Dec.{eqb, eqb·suc-zero}
 use lib.Pow.{pow-pos, pow-mono, pow-lt, mod-pow-add, shl-exact}
 use lib.Bits.{bitAnd, and-le-r, or-lt}
-use Rattle.base.specs.Folds.{implies, some, every, first, firstFrom}
+use Rattle.base.specs.Folds.{implies, some, every, first}
 use Rattle.base.specs.Sets.{hasBit, single, kept, overlap, marked, union}
 use Rattle.base.proofs.Tests.{and-all, and-none, either, or-all, or-none}
 use Rattle.base.proofs.Below.{some-as, first-as}
+use Rattle.base.proofs.Loops.{first-none}
 use Rattle.base.proofs.Bits.{hasBit-or, hasBit-and, hasBit-none, hasBit-small, power-at, power-over}
 
 -- a digit at k and what is below it are 0 together where both are
@@ -48,7 +50,7 @@ pub single-at : (i : ℕ) (b : Bool) → hasBit (single i b) i ≡ b
 single-at i true = power-at i
 single-at i false = hasBit-none i
 
-single-over : (i j : ℕ) (b : Bool) → j < i → hasBit (single i b) j ≡ false
+pub single-over : (i j : ℕ) (b : Bool) → j < i → hasBit (single i b) j ≡ false
 single-over i j true l = power-over i j l
 single-over i j false l = hasBit-none j
 
@@ -94,17 +96,9 @@ union-kept p m n s =
     union-bit (λ e. kept (p e) (m e)) n s
     ∙ some-as (λ e. hasBit (kept (p e) (m e)) s) (λ e. hasBit (m e) s && p e) n (λ e l. kept-bit (p e) (m e) s)
 
-from-none : (p : ℕ → Bool) (k i : ℕ) → ((j : ℕ) → p j ≡ false) → firstFrom p k i ≡ i + k
-from-none p zero i h = sym (add-zero i)
-from-none p (suc k) i h = rw (h i) (from-none p k (suc i) h ∙ s)
-  where
-    s : suc i + k ≡ i + suc k
-    s = omega arith
-
 -- the empty set has no lowest number
 pub first-empty : (m n : ℕ) → m ≡ 0 → n ≡ first (hasBit m) n
-unfolding first
-first-empty m n e = sym (from-none (hasBit m) n 0 (λ j. ap (λ a. hasBit a j) e ∙ hasBit-none j) ∙ zero-add n)
+first-empty m n e = first-none (hasBit m) n (λ j l. ap (λ a. hasBit a j) e ∙ hasBit-none j)
 
 -- the lowest number of the set of those at which p holds
 pub marked-first : (p : ℕ → Bool) (n : ℕ) → first (hasBit (marked p n)) n ≡ first p n

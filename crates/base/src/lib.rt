@@ -1,6 +1,6 @@
 // Sets of numbers as bits of a number. The definitions stand in specs/, the laws in proofs/.
 ghost use mathlib.Core.Path.{_≡_};
-ghost use mathlib.Core.Bool.{_&&_};
+ghost use mathlib.Core.Bool.{_&&_, not};
 ghost use lib.Dec.{ltb};
 ghost use Rattle.base.specs.Folds.{first};
 ghost use Rattle.base.specs.Sets.{hasBit, within, single, kept, overlap};
@@ -43,19 +43,24 @@ pub fn overlaps(a: u64, b: u64) -> bool
     (a & b) != 0
 }
 
-// The lowest number below n in the set, or n where there is none.
+// The lowest number in the set, or 64 where there is none.
+pub fn lowest_of(m: u64) -> usize
+    ensures { λ r. ⌜ r ≡ first (hasBit m) 64 ⌝ }
+{
+    u64::trailing_zeros(m) as usize
+}
+
+// The lowest number that is not in the set, or 64 where all below 64 are.
+pub fn lowest_outside(m: u64) -> usize
+    ensures { λ r. ⌜ r ≡ first (λ i. not (hasBit m i)) 64 ⌝ }
+{
+    lowest_of(!m)
+}
+
+// The lowest number below n in the set, or n where there is none: n joins the set, if it has a place in it.
 pub fn lowest(m: u64, n: usize) -> usize
     ensures { λ r. ⌜ r ≡ first (hasBit m) n ⌝ }
 {
-    if m == 0 {
-        return n;
-    }
-    let mut s: usize = 0;
-    while s < n {
-        if has_bit(m, s) {
-            return s;
-        }
-        s += 1;
-    }
-    s
+    let s = lowest_of(m | single_of(n, true));
+    if s < 64 { s } else { n }
 }

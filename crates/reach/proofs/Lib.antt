@@ -1,4 +1,4 @@
 -- The laws, each file after those that it cites.
 pub mod Rounds
-pub mod Turns
+pub mod Descent
 pub mod Spreading

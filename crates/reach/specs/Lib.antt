@@ -1,4 +1,4 @@
 -- The definitions, each file after those that it cites.
 pub mod Rows
-pub mod Peeling
+pub mod Descent
 pub mod Spreading

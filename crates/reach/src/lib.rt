@@ -1,5 +1,7 @@
 // Which numbers a number reaches by links, and whether the links have a cycle. Row i of the rows is the set that i is linked to.
 use base::has_bit;
+use base::lowest_of;
+use base::lowest_outside;
 use base::single_of;
 ghost use mathlib.Core.Path.{_≡_};
 ghost use mathlib.Core.Bool.{_&&_};
@@ -12,7 +14,7 @@ ghost use Rattle.base.specs.Links.{through, reach, cyclic};
 ghost use Rattle.base.proofs.Filled.{Filled};
 ghost use Rattle.reach.specs.Rows.{rowsAs, mostRows};
 ghost use Rattle.reach.specs.Spreading.{wide};
-ghost use Rattle.reach.specs.Peeling.{subset, grown, Grounded, Peeling, AllSafe};
+ghost use Rattle.reach.specs.Descent.{subset, grown, AllSafe};
 
 // The most rows.
 pub const MAX_ROWS: usize = 32;
@@ -77,6 +79,7 @@ fn is_subset(a: u64, b: u64) -> bool
     (a & b) == a
 }
 
+// The set with i as well where q says that all that i is linked to, m, is in it.
 fn grow(done: u64, m: u64, i: usize, q: bool) -> u64
     requires { ⌜ (i < 64) × (q ≡ subset m done) ⌝ }
     ensures { λ r. ⌜ r ≡ grown done m i ⌝ }
@@ -84,59 +87,55 @@ fn grow(done: u64, m: u64, i: usize, q: bool) -> u64
     done | single_of(i, q)
 }
 
-pub struct Turn {
-    pub done: u64,
-    pub all: bool,
+fn wide(i: u8) -> usize {
+    i as usize
 }
 
-// One turn over the numbers: each whose links all lead into the set joins it.
-fn peel(n: usize, rows: &[u64; MAX_ROWS], start: u64) -> Turn
-    requires { ⌜ (n ≤ mostRows) × Grounded (rowsAs (now rows)) start ⌝ }
-    ensures { λ w. ⌜ Peeling (now (rows .entry)) n (w .done) (w .all) n ⌝ }
-{
-    let mut done = start;
-    let mut all = true;
-    let mut i: usize = 0;
-    while i < n {
-        let m = rows[i];
-        let q = is_subset(m, done);
-        done = grow(done, m, i, q);
-        all = all & q;
-        i += 1;
-    }
-    Turn {
-        done: done,
-        all: all,
-    }
-}
-
-// Turns until all have joined, or one adds none.
-fn peels(n: usize, rows: &[u64; MAX_ROWS]) -> bool
+// Each number joins the set once all that it is linked to has: down where that has not, back up by the stack, and from its bottom on to
+// the lowest number that has not joined. Where there is no cycle each number is gone down to at most once and joins once: 2n steps are
+// enough, and fewer than n numbers are on the stack. From n on s tells that all have joined, or that a link leads past n.
+fn all_join(n: usize, rows: &[u64; MAX_ROWS], stack: &mut [u8; MAX_ROWS]) -> bool
     requires { ⌜ n ≤ mostRows ⌝ }
     ensures { λ b. ⌜ AllSafe (now (rows .entry)) n b ⌝ }
 {
     let mut done: u64 = 0;
+    let mut depth: usize = 0;
+    let mut s: usize = 0;
     let mut k: usize = 0;
-    while k < n {
-        let w = peel(n, rows, done);
-        if w.all {
-            return true;
+    while k < 2 * n {
+        if n <= s {
+            return n <= lowest_outside(done);
         }
-        if w.done == done {
+        if n <= depth {
             return false;
         }
-        done = w.done;
+        let m = rows[s];
+        let q = is_subset(m, done);
+        done = grow(done, m, s, q);
+        if q {
+            if depth == 0 {
+                s = lowest_outside(done);
+            } else {
+                depth -= 1;
+                s = wide(stack[depth]);
+            }
+        } else {
+            stack[depth] = s as u8;
+            depth += 1;
+            s = lowest_of(m & !done);
+        }
         k += 1;
     }
     false
 }
 
-// Whether there is a cycle: by turns, and only where they do not say that there is none, by rounds.
+// Whether there is a cycle: by descent, and only where that does not say that there is none, by rounds.
 pub fn has_cycle(n: usize, rows: [u64; MAX_ROWS]) -> bool
     ensures { λ b. ⌜ b ≡ (leb n mostRows && cyclic (rowsAs rows) n) ⌝ }
 {
     if n <= MAX_ROWS {
-        if peels(n, &rows) {
+        let mut stack = [0u8; MAX_ROWS];
+        if all_join(n, &rows, &mut stack) {
             return false;
         }
         return is_cyclic(n, rows);

@@ -1,15 +1,16 @@
 -- `has_cycle` meets its contract: what is safe is on no cycle, and the rounds decide the rest.
-use borrow.Author.Tests.{le-leb, lt-leb}
-use Rattle.reach.proofs.Turns.{peeled-none}
+use borrow.Author.Tests.{lt-leb}
+use Rattle.reach.proofs.Rounds.{rounds-answer}
+use Rattle.reach.proofs.Descent.{joined-acyclic}
 use borrow.Author.Needs.{needs}
 use Rattle.reach.proofs.has_cycle.Statement.{statement}
 use Rattle.reach.proofs.has_cycle.Tie as tie
 
 returns : tie.Need-returns
-returns c = search peeled-none
+returns c = search joined-acyclic
 
 returns-2 : tie.Need-returns-2
-returns-2 c = rw (le-leb _ _ (c .before .before .before .before .if1 .taken)) (c .is-cyclic .ensures)
+returns-2 c = search rounds-answer
 
 returns-3 : tie.Need-returns-3
 returns-3 c = rw (lt-leb _ _ (c .if1 .left))

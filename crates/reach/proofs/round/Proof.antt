@@ -1,7 +1,6 @@
 -- `round` meets its contract: the rows below i are changed.
 use borrow.Author.Needs.{needs}
 use Prim.Native.Nat.{_-_}
-use mathlib.Core.Path.{refl}
 use Rattle.reach.proofs.Rounds.{Rounding, rounding-none, rounding-more, rounding-all}
 use Rattle.reach.proofs.round.Statement.{statement}
 use Rattle.reach.proofs.round.Tie as tie
@@ -13,7 +12,7 @@ abbrev μ-loop : tie.MeasureT-loop
 μ-loop n rows₀ k own i₀ rows i = n - i
 
 loop-holds : tie.Need-loop-holds Inv-loop μ-loop
-loop-holds c = rounding-none (c .before .pre .0) (c .before .pre .2) refl
+loop-holds c = search rounding-none
 
 loop-again : tie.Need-loop-again Inv-loop μ-loop
 loop-again c = search rounding-more

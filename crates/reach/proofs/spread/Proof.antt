@@ -18,13 +18,13 @@ loop-holds : tie.Need-loop-holds Inv-loop μ-loop
 loop-holds c = spreading-none refl (c .widened .ensures)
 
 loop-less : tie.Need-loop-less Inv-loop μ-loop
-loop-less c = spreading-less (c .before .before .loop .inv) (c .before .loop-test .taken)
+loop-less c = search spreading-less
 
 loop-again : tie.Need-loop-again Inv-loop μ-loop
-loop-again c = spreading-more (c .before .before .loop .inv) (c .widened2 .ensures)
+loop-again c = search spreading-more
 
 returns : tie.Need-returns Inv-loop μ-loop
-returns c = spreading-all (c .before .loop .inv) (c .loop-test .left)
+returns c = search spreading-all
 
 pub spread-spec : {M : Type 1} → statement M
 spread-spec =

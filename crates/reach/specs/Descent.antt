@@ -1,5 +1,5 @@
--- What a turn of peeling keeps: the set gathered holds only numbers that are on no cycle.
-use Prim.Native.Nat.{ℕ, _≤_, _<_}
+-- The descent: who joins its set, and what is then safe, which is to be on no cycle.
+use Prim.Native.Nat.{ℕ, _<_}
 use mathlib.Core.Path.{_≡_}
 use mathlib.Core.Bool.{Bool, true}
 use mathlib.Core.List.{List}
@@ -12,22 +12,13 @@ use Rattle.reach.specs.Rows.{rowsAs}
 pub data Safe (d : ℕ → ℕ) : ℕ → Type 0 where
   safe : {i : ℕ} → ((j : ℕ) → hasBit (d i) j ≡ true → Safe d j) → Safe d i
 
--- each number of the set is safe
-abbrev pub Grounded : (ℕ → ℕ) → ℕ → Type 0
-Grounded d m = (s : ℕ) → hasBit m s ≡ true → Safe d s
-
+-- all of m is in c
 abbrev pub subset : ℕ → ℕ → Bool
 subset m c = eqb (bitAnd m c) m
 
 -- i joins the set where all that it is linked to, m, is there
 abbrev pub grown : ℕ → ℕ → ℕ → ℕ
 grown done m i = bitOr done (single i (subset m done))
-
--- a turn has the set done, and all below i are safe if `all` says so
-pub record Peeling (rows : List ℕ) (n done : ℕ) (all : Bool) (i : ℕ) : Type 0 where
-  pub bound : i ≤ n
-  pub grounded : Grounded (rowsAs rows) done
-  pub safes : all ≡ true → (s : ℕ) → s < i → Safe (rowsAs rows) s
 
 -- b says that the first n numbers are safe
 pub record AllSafe (rows : List ℕ) (n : ℕ) (b : Bool) : Type 0 where
