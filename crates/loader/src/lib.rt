@@ -164,8 +164,7 @@ fn write_commands(text: &[u8], d: Description, tokens: &mut [u8], o: usize)
     let stop = d.values[2] as usize;
     write_command(text, start, tokens, o);
     let room = command_room(text, start);
-    let p = o + room;
-    write_command(text, stop, tokens, p);
+    write_command(text, stop, tokens, o + room);
 }
 
 // Writes the tokens of all services from the start of the buffer on, and tells where they are, put into the places given.
