@@ -33,17 +33,17 @@ module _ (s : List ℕ) (i : ℕ) {e : ℕ} (h : i < length s) (at : e ≡ i + l
       let n : i + length (partOf s i e) + 1 ≡ e + 1 = ap (λ (x : List ℕ). i + length x + 1) (line-part s i h at) ∙ ap (λ (k : ℕ). k + 1) (sym at) in
       rw (lines-next s i h at, n, u, q, p)
 
-  -- the line is within the text, and the next one begins behind it
+  -- the line and its end are within the text, and less is left from behind its end on
   pub line-inside : {l : List ℕ} → l ≡ partOf s i e → length s * 1 < 9223372036854775808 → i + length l < 9223372036854775808
   line-inside {l} p n =
       let m : length l ≡ length (lineOf (drop i s)) = ap length (p ∙ line-part s i h at) in
       omega (arith, m, end-fits s i h at)
 
-  pub next-fits : length s * 1 < 9223372036854775808 → e + 1 < 18446744073709551616
-  next-fits n = omega (arith, end-fits s i h at)
+  pub end-inside : length s * 1 < 9223372036854775808 → e < 9223372036854775808
+  end-inside n = omega (arith, end-fits s i h at)
 
-  pub next-less : length s - (e + 1) < length s - i
-  next-less = omega arith
+  pub less-left : (k : ℕ) → e < k → length s - k < length s - i
+  less-left k l = omega arith
 
 -- the places of a line's opening are within it
 pub opened-inside : (l : List ℕ) {o : Opening} → o ≡ opening l → Inside (length l) o

@@ -1,8 +1,9 @@
 -- `read_lines` meets its contract: what the lines that are left make of the settings so far.
-use Prim.Native.Nat.{_-_}
+use native.Mathlib.Omega.{arith}
+use Prim.Native.Nat.{_-_, _<_}
 use lib.ListN.{length}
 use Rattle.reader.proofs.Laws.{Reached, reached-none, reached-few, reached-end, reached-silent, reached-good, reached-bad}
-use Rattle.reader.proofs.Laws.{next-fits, next-less, line-inside, opened-inside}
+use Rattle.reader.proofs.Laws.{end-inside, less-left, line-inside, opened-inside}
 use borrow.Author.Needs.{needs}
 use Rattle.reader.proofs.read_lines.Statement.{statement}
 use Rattle.reader.proofs.read_lines.Tie as tie
@@ -17,10 +18,12 @@ loop-holds : tie.Need-loop-holds Inv-loop μ-loop
 loop-holds c = search reached-none
 
 add-next : tie.Need-add-next Inv-loop μ-loop
-add-next c = record { fits = search next-fits }
+add-next c =
+    let h : c .line-end .result < 9223372036854775808 = search end-inside in
+    search needs
 
 loop-less : tie.Need-loop-less Inv-loop μ-loop
-loop-less c = search next-less
+loop-less c = search (less-left, arith)
 
 loop-again : tie.Need-loop-again Inv-loop μ-loop
 loop-again c = search reached-silent
@@ -38,7 +41,7 @@ affect-requires : tie.Need-affect-requires Inv-loop μ-loop
 affect-requires c κs = search reached-few
 
 loop-less-2 : tie.Need-loop-less-2 Inv-loop μ-loop
-loop-less-2 c = search next-less
+loop-less-2 c = search (less-left, arith)
 
 loop-again-2 : tie.Need-loop-again-2 Inv-loop μ-loop
 loop-again-2 c = search reached-good
