@@ -113,5 +113,5 @@ module _ (text : ℕ → List ℕ) (ds : List Description) (n j : ℕ) (x : Desc
     few = few-more (k .few) h small;
     long = ap length f ∙ length-sets b′ o two ∙ k .long;
     places = k .places ∙ commands-step o cs′ e;
-    bytes = k .bytes ∙ write-step o b′ f
+    bytes = k .bytes ∙ write-step o b′ f;
   }

@@ -59,7 +59,7 @@ lines-split (b ∷ d ∷ bs) h = by (isNewline b) (lines-split (d ∷ bs) (suc-l
   where
     by : (t : Bool) → linesOf (d ∷ bs) ≡ lineOf (d ∷ bs) ∷ linesOf (drop (suc (length (lineOf (d ∷ bs)))) (d ∷ bs))
         → pick t ([] ∷ linesOf (d ∷ bs)) (grow b (linesOf (d ∷ bs)))
-            ≡ pick t [] (b ∷ lineOf (d ∷ bs)) ∷ linesOf (drop (length (pick t [] (b ∷ lineOf (d ∷ bs)))) (d ∷ bs))
+        ≡ pick t [] (b ∷ lineOf (d ∷ bs)) ∷ linesOf (drop (length (pick t [] (b ∷ lineOf (d ∷ bs)))) (d ∷ bs))
     by true e = refl
     by false e = ap (grow b) e
 
@@ -157,8 +157,8 @@ opening-inside l =
 
     by : (x y z : Bool) → isSign (getD l (whiteEnd l (nameEnd l (whiteEnd l 0))) 0) ≡ z
         → Inside (length l) (pick x Nothing (pick y (Bad (fault 7 (whiteEnd l 0)))
-            (pick z (Named (record { from = whiteEnd l 0; end = nameEnd l (whiteEnd l 0); value = whiteEnd l (nameEnd l (whiteEnd l 0)) + 1 }))
-            (Bad (fault 7 (whiteEnd l (nameEnd l (whiteEnd l 0))))))))
+        (pick z (Named (record { from = whiteEnd l 0; end = nameEnd l (whiteEnd l 0); value = whiteEnd l (nameEnd l (whiteEnd l 0)) + 1 }))
+        (Bad (fault 7 (whiteEnd l (nameEnd l (whiteEnd l 0))))))))
     by true y z h = tt
     by false true z h = a
     by false false true h = (a, omega (arith, sign-inside l (whiteEnd l (nameEnd l (whiteEnd l 0))) h))

@@ -49,8 +49,8 @@ module _ (m : Mode) (q i : ℕ) (z : Sizes) (s : List ℕ) (k : ℕ) where
     where
       by : (r : Step)
           → scanned (onward r q i (λ m′ q′. faultFrom m′ q′ (i + 1) (drop (k + 1) s)))
-              (sizesFrom z (marked r (getD s k 0) (λ m′. marksFrom m′ (drop (k + 1) s))))
-              ≡ scanOn r q i z (drop (k + 1) s)
+          (sizesFrom z (marked r (getD s k 0) (λ m′. marksFrom m′ (drop (k + 1) s))))
+          ≡ scanOn r q i z (drop (k + 1) s)
       by (Skip n) = refl
       by (Quote n) = refl
       by (Keep n) = refl
