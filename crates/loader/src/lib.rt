@@ -223,9 +223,8 @@ fn store(
     if room <= tokens.len() {
         let none = Commands::NONE;
         let commands = write_all(lent, ends, n, ds, [none; MAX_SERVICES], tokens);
-        let answer = Answer::Accepted;
         return Loaded {
-            answer,
+            answer: Answer::Accepted,
             table: Table { count: n, services },
             commands,
         };
