@@ -5,7 +5,8 @@ use lib.Dec.{eqb, leb, ltb}
 use lib.ListN.{List·getD-eq-default, drop, drop-of-length-le, getD, length}
 use mathlib.Core.Bool.{Bool, _&&_, false, true}
 use mathlib.Core.List.{List}
-use mathlib.Core.Path.{_≡_}
+use mathlib.Core.Path.{_∙_, _≡_, sym}
+use native.Mathlib.Nat.{sub-zero}
 use native.Mathlib.Omega.{arith}
 use Rattle.base.proofs.Counting.{drop-more, one-left}
 use Rattle.base.proofs.Tests.{or-all}
@@ -38,41 +39,67 @@ past-last s j h = (
 pub past-even : (s : List ℕ) (j : ℕ) → length s ≤ 2 * j → getD s (2 * j + 1) 0 ≡ 0
 past-even s j h = List·getD-eq-default s 0 (omega arith)
 
--- ---- names; w is the name of service j as the code has it
+-- ---- names: those before j are good; w is the name of service j as the code has it
 
-pub names-end : (name : ℕ → List ℕ) (j m : ℕ) → m ≡ 0 → namesFrom name j m ≡ Accepted
-unfolding namesFrom
-names-end name j m e = rw e
+pub record NamesLeft (name : ℕ → List ℕ) (n j : ℕ) : Type 0 where
+  pub within : j ≤ n
+  pub rest : namesFrom name 0 n ≡ namesFrom name j (n - j)
 
-module _ (name : ℕ → List ℕ) (j n : ℕ) (l : j < n) {w : List ℕ} (is : w ≡ name j) where
-  pub names-bad : {g : Bool} → g ≡ isName w → g ≡ false → namesFrom name j (n - j) ≡ Refused 3 j 0
+pub names-none : (name : ℕ → List ℕ) (n : ℕ) → NamesLeft name n 0
+names-none name n = record { within = omega arith; rest = rw (sub-zero n) }
+
+module _ {name : ℕ → List ℕ} {n j : ℕ} (k : NamesLeft name n j) where
+  pub names-all : n ≤ j → Accepted ≡ namesFrom name 0 n
   unfolding namesFrom
-  names-bad e f = rw (one-left n j l, ← is, ← e, f)
+  names-all h =
+      let z : n - j ≡ 0 = omega arith in
+      sym (k .rest ∙ rw z)
 
-  pub names-twice : {g : Bool} {i : ℕ} → g ≡ isName w → g ≡ true → i ≡ find name j w → ltb i j ≡ true → namesFrom name j (n - j) ≡ Refused 4 j 0
-  unfolding namesFrom
-  names-twice e f h k = rw (one-left n j l, ← is, ← e, f, ← h, k)
+  module _ (l : j < n) {w : List ℕ} (is : w ≡ name j) {g : Bool} (e : g ≡ isName w) where
+    pub names-bad : g ≡ false → Refused 3 j 0 ≡ namesFrom name 0 n
+    unfolding namesFrom
+    names-bad f = sym (k .rest ∙ rw (one-left n j l, ← is, ← e, f))
 
-  pub names-good : {g : Bool} {i : ℕ} → g ≡ isName w → g ≡ true → i ≡ find name j w → ltb i j ≡ false
-      → namesFrom name j (n - j) ≡ namesFrom name (j + 1) (n - (j + 1))
-  unfolding namesFrom
-  names-good e f h k = rw (one-left n j l, ← is, ← e, f, ← h, k)
+    module _ {i : ℕ} (f : g ≡ true) (h : i ≡ find name j w) where
+      pub names-twice : ltb i j ≡ true → Refused 4 j 0 ≡ namesFrom name 0 n
+      unfolding namesFrom
+      names-twice t = sym (k .rest ∙ rw (one-left n j l, ← is, ← e, f, ← h, t))
 
--- ---- sizes; w is the text of service j as the code has it
+      pub names-good : ltb i j ≡ false → NamesLeft name n (j + 1)
+      unfolding namesFrom
+      names-good t = record { within = omega arith; rest = k .rest ∙ rw (one-left n j l, ← is, ← e, f, ← h, t) }
 
-pub sizes-end : (text : ℕ → List ℕ) (t j m : ℕ) → m ≡ 0 → sizesFrom text t j m ≡ Accepted
-unfolding sizesFrom
-sizes-end text t j m e = rw e
+-- ---- sizes: those before j are good, and t is their total; w is the text of service j as the code has it
 
-module _ (text : ℕ → List ℕ) (t j n : ℕ) (l : j < n) {w : List ℕ} (is : w ≡ text j) where
-  pub sizes-long : longestText < length w → sizesFrom text t j (n - j) ≡ Refused 5 j 0
+pub record SizesLeft (text : ℕ → List ℕ) (n t j : ℕ) : Type 0 where
+  pub within : j ≤ n
+  pub few : t ≤ longestTexts
+  pub rest : sizesFrom text 0 0 n ≡ sizesFrom text t j (n - j)
+
+pub sizes-none : (text : ℕ → List ℕ) (n : ℕ) → SizesLeft text n 0 0
+sizes-none text n = record { within = omega arith; few = omega arith; rest = rw (sub-zero n) }
+
+module _ {text : ℕ → List ℕ} {n t j : ℕ} (k : SizesLeft text n t j) where
+  pub sizes-all : n ≤ j → Accepted ≡ sizesFrom text 0 0 n
   unfolding sizesFrom
-  sizes-long h = rw (one-left n j l, ← is, lt-ltb longestText (length w) h)
+  sizes-all h =
+      let z : n - j ≡ 0 = omega arith in
+      sym (k .rest ∙ rw z)
 
-  pub sizes-many : longestTexts < t + length w → sizesFrom text t j (n - j) ≡ Refused 5 j 0
-  unfolding sizesFrom
-  sizes-many h = rw (one-left n j l, ← is, lt-ltb longestTexts (t + length w) h, or-all (ltb longestText (length w)))
+  module _ (l : j < n) {w : List ℕ} (is : w ≡ text j) where
+    pub sizes-long : longestText < length w → Refused 5 j 0 ≡ sizesFrom text 0 0 n
+    unfolding sizesFrom
+    sizes-long h = sym (k .rest ∙ rw (one-left n j l, ← is, lt-ltb longestText (length w) h))
 
-  pub sizes-fit : length w ≤ longestText → t + length w ≤ longestTexts → sizesFrom text t j (n - j) ≡ sizesFrom text (t + length w) (j + 1) (n - (j + 1))
-  unfolding sizesFrom
-  sizes-fit h k = rw (one-left n j l, ← is, le-ltb longestText (length w) h, le-ltb longestTexts (t + length w) k)
+    pub sizes-many : longestTexts < t + length w → Refused 5 j 0 ≡ sizesFrom text 0 0 n
+    unfolding sizesFrom
+    sizes-many h =
+        sym (k .rest ∙ rw (one-left n j l, ← is, lt-ltb longestTexts (t + length w) h, or-all (ltb longestText (length w))))
+
+    pub sizes-fit : length w ≤ longestText → t + length w ≤ longestTexts → SizesLeft text n (t + length w) (j + 1)
+    unfolding sizesFrom
+    sizes-fit h m = record {
+      within = omega arith;
+      few = m;
+      rest = k .rest ∙ rw (one-left n j l, ← is, le-ltb longestText (length w) h, le-ltb longestTexts (t + length w) m);
+    }

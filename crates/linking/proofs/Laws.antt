@@ -4,8 +4,10 @@ use borrow.Author.Tests.{le-leb, le-ltb, lt-leb, lt-ltb}
 use lib.Dec.{leb, ltb}
 use lib.ListN.{List·getD-eq-default, getD, length, replicate, set}
 use mathlib.Core.Bool.{Bool, _&&_, false, true}
-use mathlib.Core.List.{List, []}
+use mathlib.Core.List.{List}
 use mathlib.Core.Path.{_∙_, _≡_, ap, refl, sym}
+use native.Mathlib.Nat.{sub-zero}
+use native.Mathlib.Omega.{arith}
 use Rattle.base.specs.Folds.{pick}
 use Rattle.base.specs.Sets.{single}
 use Rattle.base.proofs.Counting.{one-left}
@@ -73,31 +75,39 @@ module _ (name : ℕ → List ℕ) (n : ℕ) (text : List ℕ) (d : Description)
     unfolding linksFrom
     links-absent s = rw (one-left (d .count) k h, ← found-as, le-ltb i n s, ← is)
 
--- what an array of descriptions is read as past its end, and that a place of the array has a description
-abbrev pub past : Description
-past = record { values = []; count = 0; dependencies = [] }
+-- ---- the services of a set: those before j are made, as vs, put into the places none
 
-pub description-in : (ds : List Description) (j : ℕ) → length ds ≡ maxServices → j < maxServices → getD ds j past ≡ descriptionAt ds j
-description-in ds j e h = getD-default ds j past blank (rw e h)
+pub record Made (name text : ℕ → List ℕ) (ds : List Description) (n : ℕ) (none vs : List Settings) (j : ℕ) : Type 0 where
+  pub within : j ≤ n
+  pub few : n ≤ length ds
+  pub rest : servicesFrom name text ds n none 0 n ≡ servicesFrom name text ds n vs j (n - j)
 
--- ---- the services of a set; t is the text of service j, d its description, r what the code made of its dependencies
+module _ (name text : ℕ → List ℕ) (ds : List Description) (n : ℕ) where
+  pub made-none : (none : List Settings) → n ≤ maxServices → length ds ≡ maxServices → Made name text ds n none none 0
+  made-none none f l = record { within = omega arith; few = omega arith; rest = rw (sub-zero n) }
 
-module _ (name text : ℕ → List ℕ) (ds : List Description) (n : ℕ) (vs : List Settings) where
-  pub services-end : (j m : ℕ) → m ≡ 0 → servicesFrom name text ds n vs j m ≡ record { answer = Accepted; services = vs }
+  pub made-all : {none vs : List Settings} {j : ℕ} → Made name text ds n none vs j → n ≤ j
+      → record { answer = Accepted; services = vs } ≡ servicesFrom name text ds n none 0 n
   unfolding servicesFrom
-  services-end j m e = rw e
+  made-all {j = j} k h =
+      let z : n - j ≡ 0 = omega arith in
+      sym (k .rest ∙ rw z)
 
-  module _ (j : ℕ) (h : j < n) {d : Description} (is : d ≡ descriptionAt ds j) {t : List ℕ} (ti : t ≡ text j) {r : Linked}
-      (e : r ≡ linksFrom name n t d noLinks 0 (d .count)) where
-    pub services-made : r .answer ≡ Good → {v : Settings} → v ≡ settingsOf d (r .links)
-        → servicesFrom name text ds n vs j (n - j) ≡ servicesFrom name text ds n (set vs j v) (j + 1) (n - (j + 1))
-    unfolding servicesFrom
-    services-made g q = rw (one-left n j h, ← is, ← ti, ← e, g, ← q)
+-- a service more: t is its text, r what the code made of its dependencies; past the places of the array the code reads x
+module _ {name text : ℕ → List ℕ} {ds : List Description} {n : ℕ} {none vs : List Settings} {j : ℕ} (x : Description)
+    (k : Made name text ds n none vs j) (h : j < n)
+    {t : List ℕ} (ti : t ≡ text j) {r : Linked} (e : r ≡ linksFrom name n t (getD ds j x) noLinks 0 (getD ds j x .count)) where
+  is : getD ds j x ≡ descriptionAt ds j
+  is = getD-default ds j x blank (omega (arith, k .few))
 
-    pub services-absent : {f : Fault} → r .answer ≡ Bad f → {o : Services} (next : Services) → o ≡ servicesOn t j (r .answer) vs next
-        → servicesFrom name text ds n vs j (n - j) ≡ o
-    unfolding servicesFrom
-    services-absent g next q = rw (one-left n j h, ← is, ← ti, ← e, q, g)
+  pub made-more : {v : Settings} → r .answer ≡ Good → v ≡ settingsOf (getD ds j x) (r .links) → Made name text ds n none (set vs j v) (j + 1)
+  unfolding servicesFrom
+  made-more g q = record { within = omega arith; few = k .few; rest = k .rest ∙ rw (one-left n j h, ← is, ← ti, ← e, g, ← q) }
+
+  pub made-absent : {f : Fault} {o : Services} (next : Services) → r .answer ≡ Bad f → o ≡ servicesOn t j (r .answer) vs next
+      → o ≡ servicesFrom name text ds n none 0 n
+  unfolding servicesFrom
+  made-absent next g q = sym (k .rest ∙ rw (one-left n j h, ← is, ← ti, ← e, q, g))
 
 module _ (name text : ℕ → List ℕ) (ds : List Description) (n : ℕ) where
   abbrev all : List Settings → Services
@@ -112,4 +122,6 @@ module _ (name text : ℕ → List ℕ) (ds : List Description) (n : ℕ) where
     services-in h e = e ∙ (ap (λ (a : Settings). all (replicate maxServices a)) is ∙ sym (few true (le-leb n maxServices h)))
 
     pub services-many : maxServices < n → record { answer = Refused 1 0 0; services = replicate maxServices v } ≡ servicesIn name text ds n
-    services-many h = ap (λ (a : Settings). record { answer = Refused 1 0 0; services = replicate maxServices a }) is ∙ sym (few false (lt-leb n maxServices h))
+    services-many h =
+        ap (λ (a : Settings). record { answer = Refused 1 0 0; services = replicate maxServices a }) is
+        ∙ sym (few false (lt-leb n maxServices h))

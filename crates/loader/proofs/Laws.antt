@@ -2,10 +2,10 @@
 use Prim.Native.Nat.{_+_, _-_, _<_, _≤_, suc, zero, zero-le, ℕ}
 use borrow.Author.Tests.{ltb-false}
 use lib.Dec.{ltb}
-use lib.ListN.{length, length-append, replicate, set}
+use lib.ListN.{length, replicate, set}
 use lib.Seq.{sets}
 use mathlib.Core.Bool.{Bool, _||_, false, true}
-use mathlib.Core.List.{List, [], _++_, append-assoc}
+use mathlib.Core.List.{List, _++_}
 use mathlib.Core.Path.{_∙_, _≡_, ap, refl, subst, sym}
 use native.Mathlib.Nat.{eq-or-lt-of-le}
 use native.Mathlib.Omega.{arith}
@@ -15,7 +15,7 @@ use Rattle.base.proofs.Tests.{either}
 use Rattle.service.specs.Limits.{maxServices}
 use Rattle.text.specs.declared.Fault.{Fault}
 use Rattle.text.specs.declared.Verdict.the-variants.{Bad as Bad, Good as Good}
-use Rattle.description.specs.Settings.{blank, descriptionAt, valueOf}
+use Rattle.description.specs.Settings.{blank}
 use Rattle.description.specs.Texts.{textRead}
 use Rattle.description.specs.declared.Description.{Description}
 use Rattle.description.specs.declared.Read.{Read}
@@ -25,8 +25,7 @@ use Rattle.loader.specs.declared.Descriptions.{Descriptions}
 use Rattle.lent.specs.Checks.{longestText, longestTexts, sizesFrom}
 use Rattle.lent.specs.declared.Answer.{Answer}
 use Rattle.lent.specs.declared.Answer.the-variants.{Accepted, Refused}
-use Rattle.storing.specs.Tokens.{bytesFrom, commandBytes, commandsAt, commandsFrom, roomOf}
-use Rattle.storing.specs.declared.Commands.{Commands}
+use Rattle.storing.specs.Tokens.{commandBytes}
 use Rattle.storing.proofs.Laws.{command-short, sets-append}
 
 -- ---- 5: no text is long
@@ -87,50 +86,11 @@ command-bound t at e h =
     let a : length (commandBytes t at) ≤ suc (length t) = command-short t at in
     omega (arith, a, e)
 
-module _ (text : ℕ → List ℕ) (ds : List Description) (n j : ℕ) (h : j < n) {t : List ℕ} (ti : t ≡ text j) {d : Description} (is : d ≡ descriptionAt ds j) where
-  abbrev two : List ℕ
-  two = commandBytes t (valueOf d 1) ++ commandBytes t (valueOf d 2)
-
-  abbrev after : List ℕ
-  after = bytesFrom text ds (j + 1) (n - (j + 1))
-
-  bytes-step : bytesFrom text ds j (n - j) ≡ two ++ after
-  unfolding bytesFrom
-  bytes-step = rw (one-left n j h, ← ti, ← is) (sym (append-assoc (commandBytes t (valueOf d 1)) (commandBytes t (valueOf d 2)) after))
-
-  two-long : length two ≡ roomOf t d
-  two-long = length-append (commandBytes t (valueOf d 1)) (commandBytes t (valueOf d 2))
-
-  pub commands-more : (o : ℕ) (cs : List Commands) {c : Commands} {r : ℕ} → c ≡ commandsAt o t d → r ≡ roomOf t d
-      → commandsFrom text ds o cs j (n - j) ≡ commandsFrom text ds (o + r) (set cs j c) (j + 1) (n - (j + 1))
-  unfolding commandsFrom
-  commands-more o cs {c} {r} q p =
-      let m = n - (j + 1) in
-      let e : commandsFrom text ds o cs j (n - j) ≡ commandsFrom text ds (o + roomOf t d) (set cs j (commandsAt o t d)) (j + 1) m = rw (one-left n j h, ti, is) in
-      e
-      ∙ (ap (λ (k : ℕ). commandsFrom text ds (o + k) (set cs j (commandsAt o t d)) (j + 1) m) (sym p)
-      ∙ ap (λ (a : Commands). commandsFrom text ds (o + r) (set cs j a) (j + 1) m) (sym q))
-
-  pub room-more : (o : ℕ) {r : ℕ} → r ≡ roomOf t d → o + length (bytesFrom text ds j (n - j)) ≡ (o + r) + length (bytesFrom text ds (j + 1) (n - (j + 1)))
-  room-more o {r} p =
-      let a : length (bytesFrom text ds j (n - j)) ≡ length two + length after = ap length bytes-step ∙ length-append two after in
-      omega (arith, a, two-long, p)
-
-  pub write-more : (o : ℕ) (b : List ℕ) {b′ : List ℕ} {r : ℕ} → b′ ≡ sets b o (commandBytes t (valueOf d 1) ++ commandBytes t (valueOf d 2)) → r ≡ roomOf t d
-      → sets b o (bytesFrom text ds j (n - j)) ≡ sets b′ (o + r) (bytesFrom text ds (j + 1) (n - (j + 1)))
-  write-more o b {b′} {r} q p =
-      ap (λ (l : List ℕ). sets b o l) bytes-step
-      ∙ (sets-append b o two after ∙ (ap (λ (l : List ℕ). sets l (o + length two) after) (sym q) ∙ ap (λ (k : ℕ). sets b′ (o + k) after) (two-long ∙ sym p)))
-
-module _ (text : ℕ → List ℕ) (ds : List Description) where
-  pub commands-end : (o : ℕ) (cs : List Commands) (j m : ℕ) → m ≡ 0 → commandsFrom text ds o cs j m ≡ cs
-  unfolding commandsFrom
-  commands-end o cs j m e = rw e
-
-  pub bytes-end : (j m : ℕ) → m ≡ 0 → bytesFrom text ds j m ≡ []
-  unfolding bytesFrom
-  bytes-end j m e = rw e
-
 -- one command after the other
-pub two-written : (b : List ℕ) (o p : ℕ) (xs ys : List ℕ) {b′ b″ : List ℕ} → b′ ≡ sets b o xs → p ≡ o + length xs → b″ ≡ sets b′ p ys → b″ ≡ sets b o (xs ++ ys)
-two-written b o p xs ys e q f = f ∙ rw (e, q) (sym (sets-append b o xs ys))
+pub second-fits : (t : List ℕ) (at o : ℕ) {r : ℕ} → r ≡ length (commandBytes t at) → length t ≤ longestText → o < 4294967296
+    → o + r < 18446744073709551616
+second-fits t at o e h l = omega (arith, command-bound t at e h)
+
+pub two-written : (b : List ℕ) (o : ℕ) (xs ys : List ℕ) {r : ℕ} {b′ b″ : List ℕ} → b′ ≡ sets b o xs → r ≡ length xs → b″ ≡ sets b′ (o + r) ys
+    → b″ ≡ sets b o (xs ++ ys)
+two-written b o xs ys e q f = f ∙ rw (e, q) (sym (sets-append b o xs ys))

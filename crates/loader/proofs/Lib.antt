@@ -1,3 +1,4 @@
 -- The laws, each file after those that it cites.
 pub mod Laws
+pub mod Services
 pub mod Outcomes

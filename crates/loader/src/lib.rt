@@ -164,8 +164,7 @@ fn write_commands(text: &[u8], d: Description, tokens: &mut [u8], o: usize)
     let stop = d.values[2] as usize;
     write_command(text, start, tokens, o);
     let room = command_room(text, start);
-    let p = o + room;
-    write_command(text, stop, tokens, p);
+    write_command(text, stop, tokens, o + room);
 }
 
 // Writes the tokens of all services from the start of the buffer on, and tells where they are, put into the places given.
@@ -224,9 +223,8 @@ fn store(
     if room <= tokens.len() {
         let none = Commands::NONE;
         let commands = write_all(lent, ends, n, ds, [none; MAX_SERVICES], tokens);
-        let answer = Answer::Accepted;
         return Loaded {
-            answer,
+            answer: Answer::Accepted,
             table: Table { count: n, services },
             commands,
         };

@@ -107,11 +107,10 @@ fn read_line(text: &[u8], d: Description, from: usize, line: &[u8], o: Opening) 
             let p = property(part(line, a, e));
             read_property(text, d, from, line, s, p)
         }
-        Opening::Bad(f) => {
-            let number = f.number;
-            let at = from + f.at;
-            Line::Bad(Fault { number, at })
-        }
+        Opening::Bad(f) => Line::Bad(Fault {
+            number: f.number,
+            at: from + f.at,
+        }),
     }
 }
 

@@ -2,7 +2,7 @@
 use mathlib.Core.Path.{_≡_, refl, sym, ap, _∙_}
 use mathlib.Core.List.{List, [], _∷_}
 use mathlib.Core.Bool.{Bool, true, false, _||_}
-use Prim.Native.Nat.{ℕ, suc, _+_, _-_, _≤_, _<_, zero-le, suc-le-suc}
+use Prim.Native.Nat.{ℕ, suc, _+_, _-_, _*_, _≤_, _<_, zero-le, suc-le-suc}
 use native.Mathlib.Nat.{not-suc-le-zero, add-zero}
 use native.Mathlib.Omega.{arith}
 use lib.Dec.{eqb, leb}
@@ -58,7 +58,8 @@ lines-split (b ∷ []) h = by (isNewline b)
 lines-split (b ∷ d ∷ bs) h = by (isNewline b) (lines-split (d ∷ bs) (suc-le-suc zero-le))
   where
     by : (t : Bool) → linesOf (d ∷ bs) ≡ lineOf (d ∷ bs) ∷ linesOf (drop (suc (length (lineOf (d ∷ bs)))) (d ∷ bs))
-        → pick t ([] ∷ linesOf (d ∷ bs)) (grow b (linesOf (d ∷ bs))) ≡ pick t [] (b ∷ lineOf (d ∷ bs)) ∷ linesOf (drop (length (pick t [] (b ∷ lineOf (d ∷ bs)))) (d ∷ bs))
+        → pick t ([] ∷ linesOf (d ∷ bs)) (grow b (linesOf (d ∷ bs)))
+        ≡ pick t [] (b ∷ lineOf (d ∷ bs)) ∷ linesOf (drop (length (pick t [] (b ∷ lineOf (d ∷ bs)))) (d ∷ bs))
     by true e = refl
     by false e = ap (grow b) e
 
@@ -97,12 +98,34 @@ line-part-any s i {e} q = by (leb (length s) i) refl
         rw (n, z, d, le-leb i i (omega arith)) (nothing (leb i (length s)))
 
 -- how a line begins, by the places and bytes that were found; the premises stand as the callees' contracts give them
-pub opening-found : (l : List ℕ) {a e s f y : ℕ} {g : Bool} → a ≡ whiteEnd l 0 → e ≡ nameEnd l a → s ≡ whiteEnd l e
-    → f ≡ getD l a 0 → y ≡ getD l s 0 → g ≡ isSign y
-    → opening l ≡ pick (leb (length l) a || eqb f 35) Nothing
-    (pick (eqb a e) (Bad (fault 7 a)) (pick g (Named (record { from = a; end = e; value = s + 1 })) (Bad (fault 7 s))))
-unfolding opening
-opening-found l p q r u v w = rw (w, v, u, r, q, p)
+module _ (l : List ℕ) {a : ℕ} (p : a ≡ whiteEnd l 0) where
+  name-inside : a ≤ length l
+  name-inside = run-within isWhite l 0 zero-le p
+
+  module _ {f : ℕ} (u : f ≡ getD l a 0) where
+    pub opening-nothing : leb (length l) a || eqb f 35 ≡ true → Nothing ≡ opening l
+    unfolding opening
+    opening-nothing x = rw (← p, ← u, x)
+
+    module _ {e : ℕ} (q : e ≡ nameEnd l a) (x : leb (length l) a || eqb f 35 ≡ false) where
+      pub opening-nameless : eqb a e ≡ true → Bad (fault 7 a) ≡ opening l
+      unfolding opening
+      opening-nameless y = rw (← p, ← u, x, ← q, y)
+
+      module _ {s b : ℕ} {g : Bool} (r : s ≡ whiteEnd l e) (v : b ≡ getD l s 0) (w : g ≡ isSign b) (y : eqb a e ≡ false) where
+        pub opening-named : g ≡ true → Named (record { from = a; end = e; value = s + 1 }) ≡ opening l
+        unfolding opening
+        opening-named z = rw (← p, ← u, x, ← q, y, ← r, ← v, ← w, z)
+
+        pub opening-unsigned : g ≡ false → Bad (fault 7 s) ≡ opening l
+        unfolding opening
+        opening-unsigned z = rw (← p, ← u, x, ← q, y, ← r, ← v, ← w, z)
+
+  -- the sign is at a place that a usize holds, and so is the value
+  pub sign-fits : {e s : ℕ} → e ≡ nameEnd l a → s ≡ whiteEnd l e → length l * 1 < 9223372036854775808 → s < 9223372036854775808
+  sign-fits {e} q r n =
+      let h : e ≤ length l = run-within isPropertyByte l a name-inside q in
+      omega (arith, run-within isWhite l e h r)
 
 -- the places of an opening are within n bytes
 abbrev pub Inside : ℕ → Opening → Type 0
@@ -133,7 +156,9 @@ opening-inside l =
     s = run-within isWhite l (nameEnd l (whiteEnd l 0)) e refl
 
     by : (x y z : Bool) → isSign (getD l (whiteEnd l (nameEnd l (whiteEnd l 0))) 0) ≡ z
-        → Inside (length l) (pick x Nothing (pick y (Bad (fault 7 (whiteEnd l 0))) (pick z (Named (record { from = whiteEnd l 0; end = nameEnd l (whiteEnd l 0); value = whiteEnd l (nameEnd l (whiteEnd l 0)) + 1 })) (Bad (fault 7 (whiteEnd l (nameEnd l (whiteEnd l 0))))))))
+        → Inside (length l) (pick x Nothing (pick y (Bad (fault 7 (whiteEnd l 0)))
+        (pick z (Named (record { from = whiteEnd l 0; end = nameEnd l (whiteEnd l 0); value = whiteEnd l (nameEnd l (whiteEnd l 0)) + 1 }))
+        (Bad (fault 7 (whiteEnd l (nameEnd l (whiteEnd l 0))))))))
     by true y z h = tt
     by false true z h = a
     by false false true h = (a, omega (arith, sign-inside l (whiteEnd l (nameEnd l (whiteEnd l 0))) h))

@@ -1,3 +1,4 @@
 -- The laws, each file after those that it cites.
 pub mod Scans
 pub mod Writing
+pub mod Loops

@@ -19,7 +19,8 @@ use Rattle.value.specs.declared.Sizes.{Sizes}
 use Rattle.value.specs.declared.Scan.{Scan}
 use Rattle.value.specs.declared.Scan.the-variants.{Tokens, Bad as BadValue}
 use Rattle.value.specs.Steps.{between, stepOf}
-use Rattle.value.specs.Values.{Mark, kept, close, ended, onward, faultFrom, marked, marksFrom, byteOf, counted, noSizes, sizesFrom, scanned, scanOf, longestWord, wordRoom, leading, wordOf}
+use Rattle.value.specs.Values.{Mark, kept, close, ended, onward, faultFrom, marked, marksFrom, byteOf}
+use Rattle.value.specs.Values.{counted, noSizes, sizesFrom, scanned, scanOf, longestWord, wordRoom, leading, wordOf}
 
 -- the answer for what is left, from the mode, the last quote, the place and the sizes so far
 abbrev pub scanFrom : Mode → ℕ → ℕ → Sizes → List ℕ → Scan
@@ -46,7 +47,10 @@ module _ (m : Mode) (q i : ℕ) (z : Sizes) (s : List ℕ) (k : ℕ) where
   unfolding faultFrom marksFrom sizesFrom
   scan-next {r} h e = rw (drop-more s k 0 h, e) (by r)
     where
-      by : (r : Step) → scanned (onward r q i (λ m′ q′. faultFrom m′ q′ (i + 1) (drop (k + 1) s))) (sizesFrom z (marked r (getD s k 0) (λ m′. marksFrom m′ (drop (k + 1) s)))) ≡ scanOn r q i z (drop (k + 1) s)
+      by : (r : Step)
+          → scanned (onward r q i (λ m′ q′. faultFrom m′ q′ (i + 1) (drop (k + 1) s)))
+          (sizesFrom z (marked r (getD s k 0) (λ m′. marksFrom m′ (drop (k + 1) s))))
+          ≡ scanOn r q i z (drop (k + 1) s)
       by (Skip n) = refl
       by (Quote n) = refl
       by (Keep n) = refl
@@ -191,12 +195,13 @@ ScanInside n (BadValue f) = f .at ≤ n
 
 fault-inside : (l : List ℕ) (m : Mode) (q i : ℕ) → q ≤ i → FaultInside (i + length l) (faultFrom m q i l)
 unfolding faultFrom
-fault-inside [] m q i h = by (m .escaped) (m .quoted)
+fault-inside [] m q i h = by (m .escaped) (m .quoted) refl refl
   where
-    by : (x y : Bool) → FaultInside (i + 0) (pick x (Bad (fault 9 (i - 1))) (pick y (Bad (fault 8 q)) Good))
-    by true y = omega arith
-    by false true = omega arith
-    by false false = tt
+    by : (x y : Bool) → m .escaped ≡ x → m .quoted ≡ y → FaultInside (i + 0) (ended m q i)
+    by true true e f = simp (e, f) (omega arith)
+    by true false e f = simp (e, f) (omega arith)
+    by false true e f = simp (e, f) (omega arith)
+    by false false e f = simp (e, f) tt
 fault-inside (b ∷ bs) m q i h =
     by (stepOf m b) (λ m′ q′ k. subst (λ (n : ℕ). FaultInside n (faultFrom m′ q′ (i + 1) bs)) more (fault-inside bs m′ q′ (i + 1) k))
   where

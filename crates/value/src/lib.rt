@@ -90,11 +90,10 @@ fn quote_step(m: Mode) -> Step
     ensures { λ r. ⌜ r ≡ quoteStep m ⌝ }
 {
     // A closing quote leaves the token open.
-    let token = true;
     let stretch = Mode {
         escaped: false,
         quoted: !m.quoted,
-        token,
+        token: true,
         comment: false,
     };
     if m.quoted {
@@ -183,16 +182,13 @@ fn ended(m: Mode, quote: usize, end: usize, z: Sizes) -> Scan
     requires { ⌜ (z .room < 9223372036854775808) × (z .tokens ≤ z .room) ⌝ }
     ensures { λ r. ⌜ r ≡ scanned (ended m quote end) (pick (m .token) (counted z close) z) ⌝ }
 {
-    let escaped = m.escaped;
-    let quoted = m.quoted;
-    let cut = escaped;
-    if cut {
+    if m.escaped {
         return Scan::Bad(Fault {
             number: 9,
             at: before(end),
         });
     }
-    if quoted {
+    if m.quoted {
         return Scan::Bad(Fault {
             number: 8,
             at: quote,

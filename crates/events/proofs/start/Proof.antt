@@ -1,59 +1,36 @@
 -- `start` meets its contract: the checks in order, then the services below i are changed.
-use borrow.Author.Needs.{needs}
 use Prim.Native.Nat.{_-_}
 use mathlib.Core.Bool.{_||_}
 use lib.Dec.{eqb}
-use borrow.Author.Tests.{le-ltb}
 use Rattle.base.specs.Sets.{hasBit}
-use Rattle.base.proofs.Tests.{not-true, not-false}
-use Rattle.base.proofs.Loops.{Folded, folded-none, folded-more, folded-all}
 use Rattle.service.specs.Records.{recordAt, withRecord}
-use Rattle.rules.specs.Events.{each, startedAs}
-use Rattle.rules.specs.Calls.{check, outcome}
-use Rattle.rules.proofs.Formed.{formed-few}
-use Rattle.events.proofs.Accepted.{start-done}
+use Rattle.rules.specs.Events.{startedAs}
+use Rattle.events.proofs.Accepted.{start-ill, start-absent, start-done, Changing, changing-none, changing-more, changing-all}
+use borrow.Author.Needs.{needs}
 use Rattle.events.proofs.start.Statement.{statement}
 use Rattle.events.proofs.start.Tie as tie
 
 abbrev Inv-loop : tie.InvT-loop
-Inv-loop t s x₀ m i₀ x i = Folded (λ z j. withRecord z j (startedAs (eqb j s) (eqb j s || hasBit m j) (recordAt z j))) x₀ (t .count) x i
+Inv-loop t s x₀ m i₀ x i = Changing (λ j r. startedAs (eqb j s) (eqb j s || hasBit m j) r) t x₀ x i
 
 abbrev μ-loop : tie.MeasureT-loop
 μ-loop t s x₀ m i₀ x i = t .count - i
 
 returns : tie.Need-returns Inv-loop μ-loop
-unfolding outcome check
-returns c = simp (c .refuse .ensures, not-true (c .before .before .is-formed .result) .0 (c .before .if1 .taken), ← c .before .before .is-formed .ensures)
+returns c = search start-ill
 
 returns-2 : tie.Need-returns-2 Inv-loop μ-loop
-unfolding outcome check
-returns-2 c = simp (c .refuse2 .ensures, le-ltb _ _ (c .before .if2 .taken), not-false (c .before .before .before .before .is-formed .result) .0 (c .before .before .before .if1 .left), ← c .before .before .before .before .is-formed .ensures)
+returns-2 c = search start-absent
 
 loop-holds : tie.Need-loop-holds Inv-loop μ-loop
-loop-holds c = folded-none
-
-mul-r : tie.Need-mul-r Inv-loop μ-loop
-mul-r c = let h = formed-few _ _ _ (c .before .before .before .before .before .before .before .is-formed .ensures) (not-false _ .0 (c .before .before .before .before .before .before .if1 .left)) in search needs
-
-element-copy-out-r : tie.Need-element-copy-out-r Inv-loop μ-loop
-element-copy-out-r c = let h = formed-few _ _ _ (c .before .before .before .before .before .before .before .is-formed .ensures) (not-false _ .0 (c .before .before .before .before .before .before .if1 .left)) in search needs
-
-mul-q : tie.Need-mul-q Inv-loop μ-loop
-mul-q c = let h = formed-few _ _ _ (c .before .before .before .before .before .before .before .before .before .is-formed .ensures) (not-false _ .0 (c .before .before .before .before .before .before .before .before .if1 .left)) in search needs
-
-element-set-from-q : tie.Need-element-set-from-q Inv-loop μ-loop
-element-set-from-q c = let h = formed-few _ _ _ (c .before .before .before .before .before .before .before .before .before .is-formed .ensures) (not-false _ .0 (c .before .before .before .before .before .before .before .before .if1 .left)) in search needs
-
-add-i : tie.Need-add-i Inv-loop μ-loop
-add-i c = let h = formed-few _ _ _ (c .before .before .before .before .before .before .before .before .before .is-formed .ensures) (not-false _ .0 (c .before .before .before .before .before .before .before .before .if1 .left)) in search needs
+loop-holds c = search changing-none
 
 loop-again : tie.Need-loop-again Inv-loop μ-loop
 unfolding recordAt withRecord
-loop-again c = folded-more (c .before .before .before .before .loop .inv) (c .before .before .if3 .taken) (rw (c .start-place .ensures))
+loop-again c = search changing-more
 
 returns-3 : tie.Need-returns-3 Inv-loop μ-loop
-unfolding each
-returns-3 c = start-done _ _ _ _ _ _ _ (c .before .before .before .before .before .before .before .before .is-formed .ensures) (not-false _ .0 (c .before .before .before .before .before .before .before .if1 .left)) (c .before .before .before .before .before .if2 .left) (c .before .before .before .before .reach-set .ensures) (folded-all (c .before .before .before .loop .inv) (c .before .if3 .left)) (c .done .ensures)
+returns-3 c = search (start-done, changing-all)
 
 pub start-spec : {M : Type 1} → statement M
 start-spec =
@@ -68,12 +45,12 @@ start-spec =
     returns-2
     (λ c κs. search needs)
     loop-holds
-    mul-r
-    element-copy-out-r
+    (λ c. search needs)
+    (λ c. search needs)
     (λ c κs. search needs)
-    mul-q
-    element-set-from-q
-    add-i
+    (λ c. search needs)
+    (λ c. search needs)
+    (λ c. search needs)
     (λ c. search needs)
     loop-again
     (λ c κs. search needs)

@@ -1,52 +1,30 @@
 -- `stop_all` meets its contract: the check, then the services below k are changed.
-use borrow.Author.Needs.{needs}
 use Prim.Native.Nat.{_-_}
-use mathlib.Core.Path.{refl}
-use Rattle.base.proofs.Tests.{not-true, not-false}
-use Rattle.base.proofs.Loops.{Folded, folded-none, folded-more, folded-all}
 use Rattle.service.specs.Records.{recordAt, withRecord}
-use Rattle.rules.specs.Events.{each, stopped}
-use Rattle.rules.specs.Calls.{check, outcome}
-use Rattle.rules.proofs.Formed.{formed-few}
-use Rattle.events.proofs.Accepted.{stop-all-done}
+use Rattle.rules.specs.Events.{stopped}
+use Rattle.events.proofs.Accepted.{stop-all-ill, stop-all-done, Changing, changing-none, changing-more, changing-all}
+use borrow.Author.Needs.{needs}
 use Rattle.events.proofs.stop_all.Statement.{statement}
 use Rattle.events.proofs.stop_all.Tie as tie
 
 abbrev Inv-loop : tie.InvT-loop
-Inv-loop t x₀ k₀ x k = Folded (λ z j. withRecord z j (stopped (recordAt z j))) x₀ (t .count) x k
+Inv-loop t x₀ k₀ x k = Changing (λ j r. stopped r) t x₀ x k
 
 abbrev μ-loop : tie.MeasureT-loop
 μ-loop t x₀ k₀ x k = t .count - k
 
 returns : tie.Need-returns Inv-loop μ-loop
-unfolding outcome check
-returns c = simp (not-true (c .before .is-formed .result) .0 (c .if1 .taken), ← c .before .is-formed .ensures)
+returns c = search stop-all-ill
 
 loop-holds : tie.Need-loop-holds Inv-loop μ-loop
-loop-holds c = folded-none
-
-mul-r : tie.Need-mul-r Inv-loop μ-loop
-mul-r c = let h = formed-few _ _ _ (c .before .before .before .before .is-formed .ensures) (not-false _ .0 (c .before .before .before .if1 .left)) in search needs
-
-element-copy-out-r : tie.Need-element-copy-out-r Inv-loop μ-loop
-element-copy-out-r c = let h = formed-few _ _ _ (c .before .before .before .before .is-formed .ensures) (not-false _ .0 (c .before .before .before .if1 .left)) in search needs
-
-mul-q : tie.Need-mul-q Inv-loop μ-loop
-mul-q c = let h = formed-few _ _ _ (c .before .before .before .before .before .before .is-formed .ensures) (not-false _ .0 (c .before .before .before .before .before .if1 .left)) in search needs
-
-element-set-from-q : tie.Need-element-set-from-q Inv-loop μ-loop
-element-set-from-q c = let h = formed-few _ _ _ (c .before .before .before .before .before .before .is-formed .ensures) (not-false _ .0 (c .before .before .before .before .before .if1 .left)) in search needs
-
-add-k : tie.Need-add-k Inv-loop μ-loop
-add-k c = let h = formed-few _ _ _ (c .before .before .before .before .before .before .is-formed .ensures) (not-false _ .0 (c .before .before .before .before .before .if1 .left)) in search needs
+loop-holds c = search changing-none
 
 loop-again : tie.Need-loop-again Inv-loop μ-loop
 unfolding recordAt withRecord
-loop-again c = folded-more (c .before .before .before .before .loop .inv) (c .before .before .if2 .taken) (rw (c .stop-record .ensures))
+loop-again c = search changing-more
 
 returns-2 : tie.Need-returns-2 Inv-loop μ-loop
-unfolding each
-returns-2 c = stop-all-done _ _ _ _ _ (c .before .before .before .before .is-formed .ensures) (not-false _ .0 (c .before .before .before .if1 .left)) (folded-all (c .before .before .loop .inv) (c .if2 .left)) refl
+returns-2 c = search (stop-all-done, changing-all)
 
 pub stop-all-spec : {M : Type 1} → statement M
 stop-all-spec =
@@ -57,12 +35,12 @@ stop-all-spec =
     (λ c κs. search needs)
     returns
     loop-holds
-    mul-r
-    element-copy-out-r
+    (λ c. search needs)
+    (λ c. search needs)
     (λ c κs. search needs)
-    mul-q
-    element-set-from-q
-    add-k
+    (λ c. search needs)
+    (λ c. search needs)
+    (λ c. search needs)
     (λ c. search needs)
     loop-again
     returns-2)

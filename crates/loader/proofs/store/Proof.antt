@@ -5,10 +5,10 @@ use Rattle.loader.proofs.store.Statement.{statement}
 use Rattle.loader.proofs.store.Tie as tie
 
 returns : tie.Need-returns
-returns c = stored-fits _ _ _ _ _ (c .before .before .before .before .before .room-for .ensures) (c .before .before .before .before .if1 .taken) (c .before .before .write-all .ensures .1) (c .before .before .write-all .ensures .0)
+returns c = search stored-fits
 
 returns-2 : tie.Need-returns-2
-returns-2 c = stored-small _ _ _ _ _ (c .before .before .room-for .ensures) (c .before .if1 .left) (c .refuse .ensures)
+returns-2 c = search stored-small
 
 pub store-spec : {M : Type 1} → statement M
 store-spec =

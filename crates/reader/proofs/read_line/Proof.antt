@@ -1,27 +1,17 @@
 -- `read_line` meets its contract, by how the line begins.
-use native.Mathlib.Omega.{arith}
-use mathlib.Core.Path.{_∙_, subst}
-use lib.ListN.{length}
-use denote.Ref.{now}
-use Rattle.text.proofs.Lines.{Inside}
+use Rattle.reader.proofs.Properties.{from-inside, value-inside, opening-fits, property-told}
 use borrow.Author.Needs.{needs}
 use Rattle.reader.proofs.read_line.Statement.{statement}
 use Rattle.reader.proofs.read_line.Tie as tie
 
 read-property-requires : tie.Need-read-property-requires
-read-property-requires c κs = (c .before .before .before .before .before .before .before .pre .0, subst (Inside (length (now (c .before .before .before .before .before .before .before .args .line)))) (c .before .before .before .o .given .1) (c .before .before .before .before .before .before .before .pre .1))
-
-add-at : tie.Need-add-at
-add-at c =
-    let f = subst (Inside (length (now (c .before .before .before .before .before .before .args .line)))) (c .before .before .o2 .given .1) (c .before .before .before .before .before .before .pre .1) in
-    let b = c .before .before .before .before .before .before .pre .0 in
-    omega (arith, f, b)
+read-property-requires c κs = search (from-inside, value-inside)
 
 returns : tie.Need-returns
 returns c = rw (c .enum-told .given .1)
 
 returns-2 : tie.Need-returns-2
-returns-2 c = c .read-property .ensures ∙ rw (c .before .before .before .before .o .given .1, c .before .property .ensures, c .before .before .part .ensures)
+returns-2 c = search property-told
 
 returns-3 : tie.Need-returns-3
 returns-3 c = rw (c .before .before .o2 .given .1)
@@ -36,7 +26,7 @@ read-line-spec =
     (λ c κs. search needs)
     read-property-requires
     (λ c. search needs)
-    add-at
+    (λ c. record { fits = search opening-fits })
     returns
     returns-2
     returns-3)

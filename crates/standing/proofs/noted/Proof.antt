@@ -1,10 +1,34 @@
--- `noted` meets its contract: by the functions that it calls.
+-- `noted` meets its contract: by the functions that it calls. A place is named for the set that is made there.
 use borrow.Author.Needs.{needs}
 use Rattle.standing.proofs.noted.Statement.{statement}
 use Rattle.standing.proofs.noted.Tie as tie
 
 returns : tie.Need-returns
-returns c = rw (c .before .kept-if3 .ensures, c .before .before .is-waiting .ensures, c .before .before .before .before .kept-if2 .ensures, c .before .before .before .before .before .is-down .ensures, c .before .before .before .before .before .before .before .kept-if .ensures, c .before .before .before .before .before .before .before .before .is-active .ensures, c .before .before .before .before .before .before .before .before .before .before .single-of4 .ensures, c .before .before .before .before .before .before .before .before .before .before .before .before .single-of3 .ensures, c .before .before .before .before .before .before .before .before .before .before .before .before .before .before .single-of2 .ensures, c .before .before .before .before .before .before .before .before .before .before .before .before .before .before .before .is-user .ensures, c .before .before .before .before .before .before .before .before .before .before .before .before .before .before .before .before .before .single-of .ensures, c .before .before .before .before .before .before .before .before .before .before .before .before .before .before .before .before .before .before .is-barred .ensures, c .before .before .before .before .before .before .before .before .before .before .before .before .before .before .before .before .before .before .before .is-serving .ensures, c .before .before .before .before .before .before .before .before .before .before .before .before .before .before .before .before .before .before .before .before .all-links .ensures)
+returns c =
+    let at-called = c .before in
+    let at-needed = at-called .before .before .before in
+    let at-blocked = at-needed .before .before .before in
+    let at-unready = at-blocked .before .before .before in
+    let at-barred = at-unready .before .before in
+    let at-user = at-barred .before .before in
+    let at-lost = at-user .before .before .before in
+    let at-tests = at-lost .before in
+    rw (
+      at-called .kept-if3 .ensures,
+      at-called .before .is-waiting .ensures,
+      at-needed .kept-if2 .ensures,
+      at-needed .before .is-down .ensures,
+      at-blocked .kept-if .ensures,
+      at-blocked .before .is-active .ensures,
+      at-unready .single-of4 .ensures,
+      at-barred .single-of3 .ensures,
+      at-user .single-of2 .ensures,
+      at-user .before .is-user .ensures,
+      at-lost .single-of .ensures,
+      at-tests .is-barred .ensures,
+      at-tests .before .is-serving .ensures,
+      at-tests .before .before .all-links .ensures,
+    )
 
 pub noted-spec : {M : Type 1} → statement M
 noted-spec =

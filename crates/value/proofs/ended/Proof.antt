@@ -1,14 +1,10 @@
 -- `ended` meets its contract, case by case.
-use mathlib.Core.Path.{_≡_}
-use mathlib.Core.Bool.{true}
 use borrow.Author.Needs.{needs}
 use Rattle.value.proofs.ended.Statement.{statement}
 use Rattle.value.proofs.ended.Tie as tie
 
 returns : tie.Need-returns
-returns c =
-    let h : c .before .before .args .m .escaped ≡ true = c .before .if1 .taken in
-    rw (h, c .before2 .ensures)
+returns c = rw (c .before .if1 .taken, c .before2 .ensures)
 
 returns-2 : tie.Need-returns-2
 returns-2 c = rw (c .before .if1 .left, c .if2 .taken)

@@ -1,54 +1,46 @@
 -- `scan_value` meets its contract: the answer for what is left, from what was read so far.
-use native.Mathlib.Omega.{arith}
-use mathlib.Core.Path.{_≡_, refl, sym, ap, _∙_}
-use Prim.Native.Nat.{_+_, _≤_, _-_}
-use lib.ListN.{length, drop}
-use denote.Ref.{now}
-use Rattle.value.specs.declared.Sizes.{Sizes}
-use Rattle.value.specs.Steps.{between}
-use Rattle.value.specs.Values.{noSizes, scanOf}
-use Rattle.value.proofs.Scans.{scanFrom, scan-end, scan-next, Fits, fits-more, fits-byte, fits-end}
+use Prim.Native.Nat.{_-_}
+use lib.ListN.{length}
+use Rattle.value.proofs.Loops.{Told, told-none, told-room, told-skip, told-quote, told-keep, told-close, told-bad, told-end}
 use borrow.Author.Needs.{needs}
 use Rattle.value.proofs.scan_value.Statement.{statement}
 use Rattle.value.proofs.scan_value.Tie as tie
 
 abbrev Inv-loop : tie.InvT-loop
-Inv-loop s m₀ z₀ quote₀ i₀ m z quote i = (i ≤ length s) × Fits z i × (scanFrom between 0 0 noSizes s ≡ scanFrom m quote i z (drop i s))
+Inv-loop s m₀ z₀ quote₀ i₀ m z quote i = Told s m z quote i
 
 abbrev μ-loop : tie.MeasureT-loop
 μ-loop s m₀ z₀ quote₀ i₀ m z quote i = length s - i
 
 loop-holds : tie.Need-loop-holds Inv-loop μ-loop
-loop-holds c = (search needs, record { tokens = search needs; first = search needs; room = search needs }, refl)
+loop-holds c = search told-none
 
 with-byte-requires : tie.Need-with-byte-requires Inv-loop μ-loop
-with-byte-requires c κs = (omega (arith, c .before .before .before .before .before .before .loop .inv .1 .room), c .before .before .before .before .before .before .loop .inv .1 .first)
+with-byte-requires c κs = search told-room
 
 with-end-requires : tie.Need-with-end-requires Inv-loop μ-loop
-with-end-requires c κs = (omega (arith, c .before .before .before .before .before .before .loop .inv .1 .room), c .before .before .before .before .before .before .loop .inv .1 .tokens)
+with-end-requires c κs = search told-room
 
 returns : tie.Need-returns Inv-loop μ-loop
-unfolding scanOf
-returns c = sym (c .before .before .before .before .before .loop .inv .2 ∙ scan-next _ _ _ _ _ _ (c .before .before .before .before .loop-test .taken) (sym (c .before .before .step-at .ensures) ∙ c .enum-told .given .1))
+returns c = search told-bad
 
 loop-again : tie.Need-loop-again Inv-loop μ-loop
-loop-again c = (search needs, fits-more (c .before .before .before .before .before .before .loop .inv .1), c .before .before .before .before .before .before .loop .inv .2 ∙ scan-next _ _ _ _ _ _ (c .before .before .before .before .before .loop-test .taken) (sym (c .before .before .before .step-at .ensures) ∙ c .before .k .given .1))
+loop-again c = search told-skip
 
 loop-again-2 : tie.Need-loop-again-2 Inv-loop μ-loop
-loop-again-2 c = (search needs, fits-more (c .before .before .before .before .before .before .loop .inv .1), c .before .before .before .before .before .before .loop .inv .2 ∙ scan-next _ _ _ _ _ _ (c .before .before .before .before .before .loop-test .taken) (sym (c .before .before .before .step-at .ensures) ∙ c .before .k2 .given .1))
+loop-again-2 c = search told-quote
 
 loop-again-3 : tie.Need-loop-again-3 Inv-loop μ-loop
-loop-again-3 c = (search needs, fits-byte (c .before .before .before .before .before .before .before .loop .inv .1) (c .with-byte .ensures), c .before .before .before .before .before .before .before .loop .inv .2 ∙ scan-next _ _ _ _ _ _ (c .before .before .before .before .before .before .loop-test .taken) (sym (c .before .before .before .before .step-at .ensures) ∙ c .before .before .k3 .given .1) ∙ ap (λ (z : Sizes). scanFrom (c .before .before .k3 .given .0 .0) (c .before .before .before .before .before .before .before .loop .quote) (c .before .before .before .before .before .before .before .loop .i + 1) z (drop (c .before .before .before .before .before .before .before .loop .i + 1) (now (c .before .before .before .before .before .before .before .before .before .args .s)))) (sym (c .with-byte .ensures)))
+loop-again-3 c = search told-keep
 
 loop-again-4 : tie.Need-loop-again-4 Inv-loop μ-loop
-loop-again-4 c = (search needs, fits-end (c .before .before .before .before .before .before .before .loop .inv .1) (c .with-end .ensures), c .before .before .before .before .before .before .before .loop .inv .2 ∙ scan-next _ _ _ _ _ _ (c .before .before .before .before .before .before .loop-test .taken) (sym (c .before .before .before .before .step-at .ensures) ∙ c .before .before .k4 .given .1) ∙ ap (λ (z : Sizes). scanFrom (c .before .before .k4 .given .0 .0) (c .before .before .before .before .before .before .before .loop .quote) (c .before .before .before .before .before .before .before .loop .i + 1) z (drop (c .before .before .before .before .before .before .before .loop .i + 1) (now (c .before .before .before .before .before .before .before .before .before .args .s)))) (sym (c .with-end .ensures)))
+loop-again-4 c = search told-close
 
 ended-requires : tie.Need-ended-requires Inv-loop μ-loop
-ended-requires c κs = (omega (arith, c .before .loop .inv .1 .room), c .before .loop .inv .1 .tokens)
+ended-requires c κs = search told-room
 
 returns-2 : tie.Need-returns-2 Inv-loop μ-loop
-unfolding scanOf
-returns-2 c = sym (c .before .before .loop .inv .2 ∙ scan-end _ _ _ _ _ _ (c .before .loop-test .left) ∙ sym (c .ended .ensures))
+returns-2 c = search told-end
 
 pub scan-value-spec : {M : Type 1} → statement M
 scan-value-spec =
