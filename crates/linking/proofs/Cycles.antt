@@ -1,8 +1,8 @@
 -- What the code finds of the rows of links is the lowest service on a cycle.
-use Prim.Native.Nat.{_<_, _≤_, ℕ}
+use Prim.Native.Nat.{_+_, _<_, _≤_, ℕ}
 use borrow.Author.Tests.{le-leb, lt-leb, lt-ltb}
 use lib.Dec.{leb, ltb}
-use mathlib.Core.Bool.{Bool, _&&_, false}
+use mathlib.Core.Bool.{Bool, _&&_, false, true}
 use mathlib.Core.List.{List}
 use mathlib.Core.Path.{_∙_, _≡_, ap, refl, sym}
 use native.Mathlib.Omega.{arith}
@@ -12,6 +12,7 @@ use Rattle.base.specs.Sets.{hasBit}
 use Rattle.base.proofs.Below.{first-as, some-false}
 use Rattle.base.proofs.Bits.{hasBit-none}
 use Rattle.base.proofs.Filled.{Filled}
+use Rattle.base.proofs.Loops.{Passed, passed-hit, passed-more}
 use Rattle.base.proofs.Sets.{first-empty}
 use Rattle.service.specs.Limits.{maxServices}
 use Rattle.service.specs.declared.Settings.{Settings}
@@ -21,9 +22,19 @@ use Rattle.reach.proofs.Rounds.{reach-as}
 
 module _ (rows : List ℕ) (n : ℕ) (h : n ≤ maxServices) where
   -- m is what the code found that s reaches, q whether s is in it
-  pub own-at : (s m : ℕ) (q : Bool) → s < n → m ≡ pick (leb n mostRows && ltb s n) (reach (rowsAs rows) n s) 0 → q ≡ hasBit m s
+  own-at : (s m : ℕ) (q : Bool) → s < n → m ≡ pick (leb n mostRows && ltb s n) (reach (rowsAs rows) n s) 0 → q ≡ hasBit m s
       → q ≡ hasBit (reach (rowsAs rows) n s) s
   own-at s m q l e g = g ∙ ap (λ (a : ℕ). hasBit a s) (e ∙ rw (le-leb n maxServices h, lt-ltb s n l))
+
+  pub own-hit : (s m : ℕ) {q : Bool} → Passed (λ i. hasBit (reach (rowsAs rows) n i) i) n s → s < n
+      → m ≡ pick (leb n mostRows && ltb s n) (reach (rowsAs rows) n s) 0 → q ≡ hasBit m s → q ≡ true
+      → s ≡ first (λ i. hasBit (reach (rowsAs rows) n i) i) n
+  own-hit s m {q} i l e g t = passed-hit i l (own-at s m q l e g) t
+
+  pub own-more : (s m : ℕ) {q : Bool} → Passed (λ i. hasBit (reach (rowsAs rows) n i) i) n s → s < n
+      → m ≡ pick (leb n mostRows && ltb s n) (reach (rowsAs rows) n s) 0 → q ≡ hasBit m s → q ≡ false
+      → Passed (λ i. hasBit (reach (rowsAs rows) n i) i) n (s + 1)
+  own-more s m {q} i l e g t = passed-more i l (own-at s m q l e g) t
 
   module _ (vs : List Settings) (f : Filled 0 (linksAt vs) maxServices rows n) where
     abbrev own : ℕ → Bool

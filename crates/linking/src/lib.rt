@@ -279,9 +279,9 @@ fn link_rows(services: [Settings; MAX_SERVICES], n: usize) -> [u64; MAX_SERVICES
 }
 
 // The lowest number below n that reaches itself by the rows, or n where there is none.
-fn first_own(n: usize, rows: [u64; MAX_SERVICES]) -> usize
+fn first_own(n: usize, rows: &[u64; MAX_SERVICES]) -> usize
     requires { ⌜ n ≤ maxServices ⌝ }
-    ensures { λ r. ⌜ r ≡ first (λ s. hasBit (reach (rowsAs rows) n s) s) n ⌝ }
+    ensures { λ r. ⌜ r ≡ first (λ s. hasBit (reach (rowsAs (now (rows .entry))) n s) s) n ⌝ }
 {
     let mut s: usize = 0;
     while s < n {
@@ -300,9 +300,9 @@ pub fn lowest_cyclic(services: [Settings; MAX_SERVICES], n: usize) -> usize
 {
     if n <= MAX_SERVICES {
         let rows = link_rows(services, n);
-        let cycle = has_cycle(n, rows);
+        let cycle = has_cycle(n, &rows);
         if cycle {
-            return first_own(n, rows);
+            return first_own(n, &rows);
         }
         return n;
     }

@@ -130,15 +130,15 @@ fn all_join(n: usize, rows: &[u64; MAX_ROWS], stack: &mut [u8; MAX_ROWS]) -> boo
 }
 
 // Whether there is a cycle: by descent, and only where that does not say that there is none, by rounds.
-pub fn has_cycle(n: usize, rows: [u64; MAX_ROWS]) -> bool
-    ensures { λ b. ⌜ b ≡ (leb n mostRows && cyclic (rowsAs rows) n) ⌝ }
+pub fn has_cycle(n: usize, rows: &[u64; MAX_ROWS]) -> bool
+    ensures { λ b. ⌜ b ≡ (leb n mostRows && cyclic (rowsAs (now (rows .entry))) n) ⌝ }
 {
     if n <= MAX_ROWS {
         let mut stack = [0u8; MAX_ROWS];
-        if all_join(n, &rows, &mut stack) {
+        if all_join(n, rows, &mut stack) {
             return false;
         }
-        return is_cyclic(n, rows);
+        return is_cyclic(n, *rows);
     }
     false
 }
@@ -172,12 +172,12 @@ fn spread(n: usize, rows: &[u64; MAX_ROWS], s: usize) -> u64
 }
 
 // What the number s reaches, or the empty set where there is no such row.
-pub fn reach_of(n: usize, rows: [u64; MAX_ROWS], s: usize) -> u64
-    ensures { λ m. ⌜ m ≡ pick (leb n mostRows && ltb s n) (reach (rowsAs rows) n s) 0 ⌝ }
+pub fn reach_of(n: usize, rows: &[u64; MAX_ROWS], s: usize) -> u64
+    ensures { λ m. ⌜ m ≡ pick (leb n mostRows && ltb s n) (reach (rowsAs (now (rows .entry))) n s) 0 ⌝ }
 {
     if n <= MAX_ROWS {
         if s < n {
-            return spread(n, &rows, s);
+            return spread(n, rows, s);
         }
         return 0;
     }

@@ -141,7 +141,7 @@ pub fn is_formed(t: Table, x: State) -> bool
         ok = ok & place_formed(t.count, x.clock, v, r);
         s += 1;
     }
-    let cycle = has_cycle(t.count, rows);
+    let cycle = has_cycle(t.count, &rows);
     (x.clock <= LAST_CLOCK) & ok & !cycle
 }
 
@@ -151,7 +151,7 @@ pub fn reach_set(t: Table, s: usize) -> u64
 {
     if t.count <= MAX_SERVICES {
         let rows = link_rows(t);
-        return reach_of(t.count, rows, s);
+        return reach_of(t.count, &rows, s);
     }
     0
 }

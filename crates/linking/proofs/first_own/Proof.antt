@@ -3,9 +3,9 @@ use borrow.Author.Needs.{needs}
 use Prim.Native.Nat.{_-_}
 use Rattle.base.specs.Sets.{hasBit}
 use Rattle.base.specs.Links.{reach}
-use Rattle.base.proofs.Loops.{Passed, passed-none, passed-more, passed-hit, passed-all}
+use Rattle.base.proofs.Loops.{Passed, passed-none, passed-all}
 use Rattle.reach.specs.Rows.{rowsAs}
-use Rattle.linking.proofs.Cycles.{own-at}
+use Rattle.linking.proofs.Cycles.{own-hit, own-more}
 use Rattle.linking.proofs.first_own.Statement.{statement}
 use Rattle.linking.proofs.first_own.Tie as tie
 
@@ -19,14 +19,10 @@ loop-holds : tie.Need-loop-holds Inv-loop μ-loop
 loop-holds c = passed-none
 
 returns : tie.Need-returns Inv-loop μ-loop
-returns c =
-    let q = own-at (c .before .before .before .before .before .args .rows) _ (c .before .before .before .before .before .pre) _ _ _ (c .before .before .before .loop-test .taken) (c .before .before .reach-of .ensures) (c .before .has-bit .ensures) in
-    passed-hit (c .before .before .before .before .loop .inv) (c .before .before .before .loop-test .taken) q (c .if1 .taken)
+returns c = search own-hit
 
 loop-again : tie.Need-loop-again Inv-loop μ-loop
-loop-again c =
-    let q = own-at (c .before .before .before .before .before .args .rows) _ (c .before .before .before .before .before .pre) _ _ _ (c .before .before .before .loop-test .taken) (c .before .before .reach-of .ensures) (c .before .has-bit .ensures) in
-    passed-more (c .before .before .before .before .loop .inv) (c .before .before .before .loop-test .taken) q (c .if1 .left)
+loop-again c = search own-more
 
 returns-2 : tie.Need-returns-2 Inv-loop μ-loop
 returns-2 c = passed-all (c .before .loop .inv) (c .loop-test .left)

@@ -5,10 +5,10 @@ use Rattle.linking.proofs.lowest_cyclic.Statement.{statement}
 use Rattle.linking.proofs.lowest_cyclic.Tie as tie
 
 returns : tie.Need-returns
-returns c = lowest-found _ _ (c .before .before .before .before .if1 .taken) _ (c .before .before .before .link-rows .ensures) _ (c .first-own .ensures)
+returns c = search lowest-found
 
 returns-2 : tie.Need-returns-2
-returns-2 c = lowest-none _ _ (c .before .before .before .if1 .taken) _ (c .before .before .link-rows .ensures) _ (c .before .has-cycle .ensures) (c .if2 .left)
+returns-2 c = search lowest-none
 
 returns-3 : tie.Need-returns-3
 returns-3 c = lowest-past _ _ (c .if1 .left)

@@ -44,7 +44,7 @@ loop2-again c = search every-more
 
 returns-2 : tie.Need-returns-2 Inv-loop μ-loop Inv-loop2 μ-loop2
 returns-2 c =
-    let at-pass = c .before .before in
+    let at-pass = c .before .before .before in
     let at-rows = at-pass .before .before in
     let at-start = at-rows .before .before in
     formed-found
@@ -55,7 +55,7 @@ returns-2 c =
     (c .has-cycle .result)
     (at-rows .before .if1 .left)
     (filling-all (at-rows .loop .inv) (at-pass .before .loop-test .left))
-    (every-all (at-pass .loop2 .inv) (c .before .loop2-test .left))
+    (every-all (at-pass .loop2 .inv) (c .before .before .loop2-test .left))
     (c .has-cycle .ensures)
 
 pub is-formed-spec : {M : Type 1} → statement M
