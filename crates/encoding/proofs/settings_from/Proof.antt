@@ -7,50 +7,49 @@ use Rattle.encoding.proofs.settings_from.Tie as tie
 returns : tie.Need-returns
 unfolding settingsFrom
 returns c =
-    rw (
-      c .number-at12 .ensures,
-      c .before .number-at11 .ensures,
-      c .before .before .number-at10 .ensures,
-      c .before .before .before .number-at9 .ensures,
-      c .before .before .before .before .number-at8 .ensures,
-      c .before .before .before .before .before .number-at7 .ensures,
-      c .before .before .before .before .before .before .number-at6 .ensures,
-      c .before .before .before .before .before .before .before .number-at5 .ensures,
-      c .before .before .before .before .before .before .before .before .signal-of .ensures,
-      c .before .before .before .before .before .before .before .before .before .number-at4 .ensures,
-      c .before .before .before .before .before .before .before .before .before .before .number-at3 .ensures,
-      c .before .before .before .before .before .before .before .before .before .before .before .number-at2 .ensures,
-      c .before .before .before .before .before .before .before .before .before .before .before .before .kind-of .ensures,
-      c .before .before .before .before .before .before .before .before .before .before .before .before .before .number-at .ensures,
-    )
+    let at-signal = c .before .before .before .before .before .before .before .before in
+    let at-kind = at-signal .before .before .before .before in
+    rw (at-signal .signal-at .ensures, at-kind .kind-at .ensures)
 
 pub settings-from-spec : {M : Type 1} → statement M
 settings-from-spec =
     tie.close
     (tie.spec
-    (λ c κs. search needs)
-    (λ c κs. search needs)
+    (λ c. search needs)
     (λ c. search needs)
     (λ c κs. search needs)
     (λ c. search needs)
-    (λ c κs. search needs)
     (λ c. search needs)
-    (λ c κs. search needs)
-    (λ c κs. search needs)
     (λ c. search needs)
-    (λ c κs. search needs)
     (λ c. search needs)
-    (λ c κs. search needs)
     (λ c. search needs)
-    (λ c κs. search needs)
+    (λ c. search needs)
+    (λ c. search needs)
+    (λ c. search needs)
     (λ c. search needs)
     (λ c κs. search needs)
     (λ c. search needs)
-    (λ c κs. search needs)
     (λ c. search needs)
-    (λ c κs. search needs)
     (λ c. search needs)
-    (λ c κs. search needs)
     (λ c. search needs)
-    (λ c κs. search needs)
+    (λ c. search needs)
+    (λ c. search needs)
+    (λ c. search needs)
+    (λ c. search needs)
+    (λ c. search needs)
+    (λ c. search needs)
+    (λ c. search needs)
+    (λ c. search needs)
+    (λ c. search needs)
+    (λ c. search needs)
+    (λ c. search needs)
+    (λ c. search needs)
+    (λ c. search needs)
+    (λ c. search needs)
+    (λ c. search needs)
+    (λ c. search needs)
+    (λ c. search needs)
+    (λ c. search needs)
+    (λ c. search needs)
+    (λ c. search needs)
     returns)

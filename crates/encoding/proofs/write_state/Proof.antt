@@ -32,6 +32,7 @@ write-state-spec =
     Inv-loop
     μ-loop
     (λ c. search needs)
+    (λ c. search needs)
     loop-holds
     (λ c. search needs)
     (λ c. search needs)
