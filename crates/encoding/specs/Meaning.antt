@@ -20,7 +20,7 @@ isDeadline n time = isFlag n && (flagOf n || eqb time 0)
 
 -- the numbers of the place from a on that are not used are 0
 unfoldable pub isBlank : List ℕ → ℕ → Bool
-isBlank l a = every (λ k. eqb (getD l (a + used + k) 0) 0) (perPlace - used)
+isBlank l a = every (λ k. eqb (getD l (a + (used + k)) 0) 0) (perPlace - used)
 
 -- the numbers from a on are those of a record
 unfoldable pub isRecord : List ℕ → ℕ → Bool

@@ -32,7 +32,7 @@ fn is_blank(numbers: &Numbers, at: usize) -> bool
     let mut blank = true;
     let mut k: usize = 0;
     while k < EACH - USED {
-        let n = numbers[at + USED + k];
+        let n = numbers[at + (USED + k)];
         blank = blank & (n == 0);
         k += 1;
     }

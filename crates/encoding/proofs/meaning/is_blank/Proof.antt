@@ -10,7 +10,7 @@ use Rattle.encoding.proofs.meaning.is_blank.Statement.{statement}
 use Rattle.encoding.proofs.meaning.is_blank.Tie as tie
 
 abbrev Inv-loop : tie.InvT-loop
-Inv-loop numbers at blank₀ k₀ blank k = Every (λ i. eqb (getD numbers (at + used + i) 0) 0) (perPlace - used) blank k
+Inv-loop numbers at blank₀ k₀ blank k = Every (λ i. eqb (getD numbers (at + (used + i)) 0) 0) (perPlace - used) blank k
 
 abbrev μ-loop : tie.MeasureT-loop
 μ-loop numbers at blank₀ k₀ blank k = perPlace - used - k
