@@ -1,15 +1,18 @@
 -- `most` meets its contract.
+use Rattle.text.specs.Strings.{bytes}
 use Rattle.scenario.proofs.Forms.{most-read, most-service}
 use borrow.Author.Needs.{needs}
 use Rattle.scenario.proofs.most.Statement.{statement}
 use Rattle.scenario.proofs.most.Tie as tie
 
 returns : tie.Need-returns
+unfolding bytes
 returns c =
     let at-name = c .before in
     most-service _ (at-name .same-bytes .ensures) (c .if1 .taken)
 
 returns-2 : tie.Need-returns-2
+unfolding bytes
 returns-2 c =
     let at-number = c .before in
     let at-tail = at-number .before in
@@ -18,6 +21,7 @@ returns-2 c =
     most-read _ (at-name .same-bytes .ensures) (at-test .if1 .left) (at-tail .tail .ensures) (at-number .number .ensures) (c .if2 .taken)
 
 returns-3 : tie.Need-returns-3
+unfolding bytes
 returns-3 c =
     let at-number = c .before in
     let at-tail = at-number .before in
