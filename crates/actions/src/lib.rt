@@ -1,25 +1,25 @@
-// What each rule hands out, and an action as the two numbers that a run writes.
+// What each rule hands out.
 use record_tests::is_starting;
 use rules::Rule;
 use service::Action;
-use service::Kind;
+use service::Form;
 use service::Phase;
 use service::Record;
 use service::Settings;
 use service::Signal;
-ghost use Prim.Native.Nat.{_+_};
+use service::form_of;
 ghost use mathlib.Core.Path.{_≡_};
-ghost use Rattle.service.specs.Numbers.{signalNumber, isQuiet, actionService, actionNumber};
 ghost use Rattle.rules.specs.Rules.{begunAction, termAction, endAction, expiredAction, handedBy};
 
 // Rule 6.
-fn begun_action(k: Kind, s: usize) -> Action
-    ensures { λ a. ⌜ a ≡ begunAction k s ⌝ }
+fn begun_action(f: Form, s: usize) -> Action
+    ensures { λ a. ⌜ a ≡ begunAction f s ⌝ }
 {
-    match k {
-        Kind::Process => Action::Launch(s),
-        Kind::Scripted => Action::Launch(s),
-        Kind::Internal => Action::Moved(s),
+    match f {
+        Form::Bare => Action::Moved(s),
+        Form::Passing => Action::Launch(s),
+        Form::Direct => Action::Launch(s),
+        Form::Delayed => Action::Launch(s),
     }
 }
 
@@ -40,13 +40,14 @@ fn term_action(g: Signal, s: usize) -> Action
 }
 
 // Rule 7.
-fn end_action(k: Kind, g: Signal, s: usize) -> Action
-    ensures { λ a. ⌜ a ≡ endAction k g s ⌝ }
+fn end_action(f: Form, g: Signal, s: usize) -> Action
+    ensures { λ a. ⌜ a ≡ endAction f g s ⌝ }
 {
-    match k {
-        Kind::Process => term_action(g, s),
-        Kind::Scripted => Action::StopCommand(s),
-        Kind::Internal => Action::Moved(s),
+    match f {
+        Form::Bare => Action::Moved(s),
+        Form::Passing => Action::StopCommand(s),
+        Form::Direct => term_action(g, s),
+        Form::Delayed => term_action(g, s),
     }
 }
 
@@ -64,7 +65,7 @@ fn expired_action(p: Phase, s: usize) -> Action
 pub fn hand_out(k: Rule, v: Settings, r: Record, s: usize) -> Action
     ensures { λ a. ⌜ a ≡ handedBy k v r s ⌝ }
 {
-    let kind = v.kind;
+    let f = form_of(v);
     let g = v.signal;
     let p = r.phase;
     match k {
@@ -73,66 +74,8 @@ pub fn hand_out(k: Rule, v: Settings, r: Record, s: usize) -> Action
         Rule::Settle => Action::Moved(s),
         Rule::Wake => Action::Moved(s),
         Rule::Release => Action::Moved(s),
-        Rule::Begin => begun_action(kind, s),
-        Rule::End => end_action(kind, g, s),
+        Rule::Begin => begun_action(f, s),
+        Rule::End => end_action(f, g, s),
         Rule::Expire => expired_action(p, s),
-    }
-}
-
-pub fn is_quiet(a: Action) -> bool
-    ensures { λ b. ⌜ b ≡ isQuiet a ⌝ }
-{
-    match a {
-        Action::Quiet => true,
-        Action::Moved(_) => false,
-        Action::Launch(_) => false,
-        Action::StopCommand(_) => false,
-        Action::Signal(_, _) => false,
-    }
-}
-
-// The place of a signal in paper 01's list, after the three other actions.
-fn signal_number(g: Signal) -> u64
-    ensures { λ n. ⌜ n ≡ 3 + signalNumber g ⌝ }
-{
-    match g {
-        Signal::None => 3,
-        Signal::Hup => 4,
-        Signal::Int => 5,
-        Signal::Term => 6,
-        Signal::Quit => 7,
-        Signal::Usr1 => 8,
-        Signal::Usr2 => 9,
-        Signal::Kill => 10,
-    }
-}
-
-fn number_of(s: usize) -> u64
-    ensures { λ n. ⌜ n ≡ s ⌝ }
-{
-    s as u64
-}
-
-pub fn action_service(a: Action) -> u64
-    ensures { λ n. ⌜ n ≡ actionService a ⌝ }
-{
-    match a {
-        Action::Quiet => 0,
-        Action::Moved(s) => number_of(s),
-        Action::Launch(s) => number_of(s),
-        Action::StopCommand(s) => number_of(s),
-        Action::Signal(s, _) => number_of(s),
-    }
-}
-
-pub fn action_number(a: Action) -> u64
-    ensures { λ n. ⌜ n ≡ actionNumber a ⌝ }
-{
-    match a {
-        Action::Quiet => 0,
-        Action::Moved(_) => 0,
-        Action::Launch(_) => 1,
-        Action::StopCommand(_) => 2,
-        Action::Signal(_, g) => signal_number(g),
     }
 }

@@ -1,21 +1,24 @@
 // What an event makes of one service's record: start, stop and the end of its process.
 use record_tests::is_active;
 use record_tests::is_none;
+use record_tests::is_passing;
 use service::Cause;
 use service::Deadline;
 use service::Phase;
 use service::Record;
 use service::Settings;
+use service::form_of;
+use service::moved;
+use service::with_cause;
 use settling::at_rest;
 use settling::is_sound;
 use settling::settle;
-use settling::with_cause;
 ghost use mathlib.Core.Path.{_≡_};
 ghost use mathlib.Core.Bool.{true, false};
 ghost use Rattle.base.specs.Folds.{pick};
 ghost use Rattle.service.specs.declared.Cause.the-variants.{User, Fell};
-ghost use Rattle.service.specs.Records.{isNone};
-ghost use Rattle.rules.specs.Events.{revivedCause, startedAs, stoppedPhase, stopped, dead, startedUp, withCause, endedAs};
+ghost use Rattle.service.specs.Records.{isNone, withCause};
+ghost use Rattle.rules.specs.Events.{revivedCause, startedAs, stoppedPhase, stopped, dead, startedUp, brings, endedAs};
 ghost use Rattle.settling.specs.Sound.{sound};
 
 // User or failed becomes released.
@@ -47,22 +50,13 @@ fn zero_if(test: bool, n: u64) -> u64
 pub fn start_record(own: bool, reached: bool, r: Record) -> Record
     ensures { λ q. ⌜ q ≡ startedAs own reached r ⌝ }
 {
-    let p = r.phase;
-    let d = r.deadline;
     let c = r.cause;
-    Record {
-        phase: p,
-        wanted: r.wanted | own,
-        aside: r.aside & !reached,
-        live: r.live,
-        cause: cause_if(reached, revived(c), c),
-        deadline: d,
-        killed: r.killed,
-        not_before: zero_if(reached, r.not_before),
-        last_launch: r.last_launch,
-        window_start: r.window_start,
-        restarts: r.restarts,
-    }
+    let e = cause_if(reached, revived(c), c);
+    let mut q = with_cause(e, r);
+    q.wanted = r.wanted | own;
+    q.aside = r.aside & !reached;
+    q.not_before = zero_if(reached, r.not_before);
+    q
 }
 
 // Down or waiting gives down.
@@ -83,22 +77,14 @@ pub fn stop_record(r: Record) -> Record
     ensures { λ q. ⌜ q ≡ stopped r ⌝ }
 {
     let p = r.phase;
-    let d = r.deadline;
     let c = r.cause;
+    let d = r.deadline;
     let running = is_active(p);
-    Record {
-        phase: stop_phase(p),
-        wanted: false,
-        aside: !running | r.aside,
-        live: r.live,
-        cause: cause_if(running, Cause::User, c),
-        deadline: d,
-        killed: r.killed,
-        not_before: r.not_before,
-        last_launch: r.last_launch,
-        window_start: r.window_start,
-        restarts: r.restarts,
-    }
+    let e = cause_if(running, Cause::User, c);
+    let mut q = moved(stop_phase(p), e, d, r);
+    q.wanted = false;
+    q.aside = !running | r.aside;
+    q
 }
 
 // The process is gone.
@@ -115,19 +101,15 @@ fn started_up(r: Record) -> Record
     ensures { λ q. ⌜ q ≡ startedUp r ⌝ }
 {
     let c = r.cause;
-    Record {
-        phase: Phase::Up,
-        wanted: r.wanted,
-        aside: r.aside,
-        live: r.live,
-        cause: c,
-        deadline: Deadline::None,
-        killed: r.killed,
-        not_before: r.not_before,
-        last_launch: r.last_launch,
-        window_start: r.window_start,
-        restarts: r.restarts,
-    }
+    moved(Phase::Up, c, Deadline::None, r)
+}
+
+// The end of a start brings the service up.
+fn brings_up(v: Settings, good: bool) -> bool
+    ensures { λ b. ⌜ b ≡ brings v good ⌝ }
+{
+    let f = form_of(v);
+    good & is_passing(f)
 }
 
 // The end of a process that was up: no cause becomes fell.
@@ -140,7 +122,7 @@ fn fallen(d: Record, c: Cause) -> Record
 
 // The record after the end of its process; one whose times are out of range is left as it is.
 pub fn end_record(v: Settings, now: u64, good: bool, r: Record) -> Record
-    ensures { λ q. ⌜ q ≡ pick (sound v now r) (endedAs (r .phase) v now good r) r ⌝ }
+    ensures { λ q. ⌜ q ≡ pick (sound v now r) (endedAs (r .phase) v now (brings v good) r) r ⌝ }
 {
     if is_sound(v, now, r) {
         let d = dead_record(r);
@@ -150,7 +132,7 @@ pub fn end_record(v: Settings, now: u64, good: bool, r: Record) -> Record
             Phase::Down => d,
             Phase::Waiting => d,
             Phase::Starting => {
-                if good {
+                if brings_up(v, good) {
                     started_up(d)
                 } else {
                     at_rest(false, true, d)

@@ -18,7 +18,7 @@ use Rattle.service.specs.declared.EventAnswer.the-variants.{Done, Refused}
 use Rattle.service.specs.declared.Refusal.the-variants.{IllFormed, NoService}
 use Rattle.rules.specs.Dependencies.{allLinks}
 use Rattle.rules.specs.WellFormed.{formed}
-use Rattle.rules.specs.Events.{each, startReaches, startedAs, afterStart, stopped, afterStop, afterStopAll, endedAs, afterEnd, afterClock}
+use Rattle.rules.specs.Events.{each, startReaches, startedAs, afterStart, stopped, afterStop, afterStopAll, brings, endedAs, afterEnd, afterClock}
 use Rattle.rules.specs.Calls.{start, stop, stopAll, end, clock, check, outcome, changedOutcome}
 use Rattle.rules.proofs.Formed.{formed-few}
 use Rattle.settling.specs.Sound.{sound}
@@ -68,12 +68,12 @@ module _ (t : Table) (x : State) (q : Bool) (w : Changed) where
 
   pub end-done : (s : ℕ) (good : Bool) (r : Record) → q ≡ formed t x → q ≡ true → s < t .count → recordAt x s .live ≡ true
       → r ≡ pick (sound (settingsAt t s) (x .clock) (recordAt x s))
-      (endedAs (recordAt x s .phase) (settingsAt t s) (x .clock) good (recordAt x s)) (recordAt x s)
+      (endedAs (recordAt x s .phase) (settingsAt t s) (x .clock) (brings (settingsAt t s) good) (recordAt x s)) (recordAt x s)
       → w ≡ record { answer = Done; state = withRecord x s r } → changedOutcome w ≡ outcome t x (end s good)
   unfolding outcome check afterEnd
   end-done s good r e h l v a d =
       let f : formed t x ≡ true = sym e ∙ h in
-      let b : r ≡ endedAs (recordAt x s .phase) (settingsAt t s) (x .clock) good (recordAt x s)
+      let b : r ≡ endedAs (recordAt x s .phase) (settingsAt t s) (x .clock) (brings (settingsAt t s) good) (recordAt x s)
       = a ∙ rw (sound-at t x f s l) in
       rw (d, b, f, lt-ltb s (t .count) l, v)
 

@@ -74,19 +74,18 @@ pub fn stop(t: Table, mut x: State, s: usize) -> Changed
 {
     let formed = is_formed(t, x);
     let n = t.count;
-    // 24, then 20
-    let ill = Refusal::IllFormed;
-    let absent = Refusal::NoService;
     if formed {
         if s < n {
             let r = x.records[s];
             let stopped = stop_record(r);
             x.records[s] = stopped;
-            return done(x);
+            done(x)
+        } else {
+            refuse(Refusal::NoService, x)
         }
-        return refuse(absent, x);
+    } else {
+        refuse(Refusal::IllFormed, x)
     }
-    refuse(ill, x)
 }
 
 // Stop for each. The answers are written out: `done` and `refuse` would cost the loop a copy of the state.

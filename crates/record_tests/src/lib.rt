@@ -1,31 +1,47 @@
-// Tests of one service's type, phase, cause and record, as the rules name them.
+// Tests of one service's form, phase, cause and record, as the rules name them.
 use service::Cause;
-use service::Kind;
+use service::Form;
 use service::Phase;
 use service::Record;
 ghost use mathlib.Core.Path.{_≡_};
-ghost use Rattle.service.specs.Settings.{isProcess, isScripted};
+ghost use Rattle.service.specs.Settings.{isPassing, startsFirst, livesUp};
 ghost use Rattle.service.specs.Records.{isDown, isWaiting, isStarting, isUp, isEnding, active, isNone, isUser};
 ghost use Rattle.rules.specs.Dependencies.{serving, closing, barred};
 ghost use Rattle.rules.specs.Rules.{running};
 
-pub fn is_process(k: Kind) -> bool
-    ensures { λ b. ⌜ b ≡ isProcess k ⌝ }
+// Launched into starting, with no process once it is up.
+pub fn is_passing(f: Form) -> bool
+    ensures { λ b. ⌜ b ≡ isPassing f ⌝ }
 {
-    match k {
-        Kind::Process => true,
-        Kind::Scripted => false,
-        Kind::Internal => false,
+    match f {
+        Form::Bare => false,
+        Form::Passing => true,
+        Form::Direct => false,
+        Form::Delayed => false,
     }
 }
 
-pub fn is_scripted(k: Kind) -> bool
-    ensures { λ b. ⌜ b ≡ isScripted k ⌝ }
+// Its launch leads to starting.
+pub fn starts_first(f: Form) -> bool
+    ensures { λ b. ⌜ b ≡ startsFirst f ⌝ }
 {
-    match k {
-        Kind::Process => false,
-        Kind::Scripted => true,
-        Kind::Internal => false,
+    match f {
+        Form::Bare => false,
+        Form::Passing => true,
+        Form::Direct => false,
+        Form::Delayed => true,
+    }
+}
+
+// It has a live process while it is up.
+pub fn lives_up(f: Form) -> bool
+    ensures { λ b. ⌜ b ≡ livesUp f ⌝ }
+{
+    match f {
+        Form::Bare => false,
+        Form::Passing => false,
+        Form::Direct => true,
+        Form::Delayed => true,
     }
 }
 

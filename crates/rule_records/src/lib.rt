@@ -5,25 +5,25 @@ use record_tests::is_waiting;
 use rules::Rule;
 use service::Cause;
 use service::Deadline;
-use service::Kind;
+use service::Form;
 use service::Phase;
 use service::Record;
 use service::Settings;
+use service::form_of;
+use service::moved;
+use service::with_cause;
+use service::with_phase;
 use settling::is_sound;
 use settling::settle;
-use settling::with_cause;
-use settling::with_phase;
 ghost use mathlib.Core.Path.{_≡_};
 ghost use mathlib.Core.Bool.{true, false};
 ghost use Prim.Native.Nat.{_≤_};
 ghost use Rattle.base.specs.Folds.{pick};
 ghost use Rattle.service.specs.declared.Cause.the-variants.{User, Fell, Failed};
 ghost use Rattle.service.specs.Limits.{longestTime, lastClock};
-ghost use Rattle.service.specs.Records.{isStarting, isUser};
+ghost use Rattle.service.specs.Records.{isStarting, isUser, moved, withCause, withLaunch, withLive};
 ghost use Rattle.rules.specs.Rules.{deadlineIn, abandoned, released, begun, ending, expired, leftBy};
 ghost use Rattle.settling.specs.Sound.{sound, Sound};
-ghost use Rattle.rules.specs.Events.{withCause};
-ghost use Rattle.rule_records.specs.Launched.{launchedAs};
 
 // The deadline at the end of a timeout; none where that is 0.
 fn deadline_in(now: u64, timeout: u64) -> Deadline
@@ -56,21 +56,10 @@ fn user_or_failed(c: Cause) -> Cause
 fn abandon(r: Record) -> Record
     ensures { λ q. ⌜ q ≡ abandoned r ⌝ }
 {
-    let c = r.cause;
-    let d = r.deadline;
-    Record {
-        phase: Phase::Down,
-        wanted: false,
-        aside: true,
-        live: r.live,
-        cause: c,
-        deadline: d,
-        killed: r.killed,
-        not_before: r.not_before,
-        last_launch: r.last_launch,
-        window_start: r.window_start,
-        restarts: r.restarts,
-    }
+    let mut q = with_phase(Phase::Down, r);
+    q.wanted = false;
+    q.aside = true;
+    q
 }
 
 // Rule 5: waiting goes down; else cause released.
@@ -84,24 +73,15 @@ fn release(r: Record) -> Record
     with_cause(Cause::Released, r)
 }
 
-// Rule 6 for any type: the phase, the life and the deadline as told, launched now.
+// Rule 6 for any form: the phase, the life and the deadline as told, launched now.
 fn launched(p: Phase, live: bool, d: Deadline, now: u64, r: Record) -> Record
-    ensures { λ q. ⌜ q ≡ launchedAs p live d now r ⌝ }
+    ensures { λ q. ⌜ q ≡ moved p (r .cause) d (withLive live (withLaunch now r)) ⌝ }
 {
     let c = r.cause;
-    Record {
-        phase: p,
-        wanted: r.wanted,
-        aside: r.aside,
-        live: live,
-        cause: c,
-        deadline: d,
-        killed: r.killed,
-        not_before: r.not_before,
-        last_launch: now,
-        window_start: r.window_start,
-        restarts: r.restarts,
-    }
+    let mut q = moved(p, c, d, r);
+    q.live = live;
+    q.last_launch = now;
+    q
 }
 
 // Rule 6.
@@ -109,13 +89,14 @@ fn begin(v: Settings, now: u64, r: Record) -> Record
     requires { ⌜ Sound v now r ⌝ }
     ensures { λ q. ⌜ q ≡ begun v now r ⌝ }
 {
-    let k = v.kind;
+    let f = form_of(v);
     let old = r.deadline;
     let new = deadline_in(now, v.start_timeout);
-    match k {
-        Kind::Process => launched(Phase::Up, true, old, now, r),
-        Kind::Scripted => launched(Phase::Starting, true, new, now, r),
-        Kind::Internal => launched(Phase::Up, r.live, old, now, r),
+    match f {
+        Form::Bare => launched(Phase::Up, r.live, old, now, r),
+        Form::Passing => launched(Phase::Starting, true, new, now, r),
+        Form::Direct => launched(Phase::Up, true, old, now, r),
+        Form::Delayed => launched(Phase::Starting, true, new, now, r),
     }
 }
 
@@ -124,22 +105,11 @@ fn end(v: Settings, now: u64, r: Record) -> Record
     requires { ⌜ Sound v now r ⌝ }
     ensures { λ q. ⌜ q ≡ ending v now r ⌝ }
 {
-    let p = Phase::Ending;
     let c = r.cause;
     let d = deadline_in(now, v.stop_timeout);
-    Record {
-        phase: p,
-        wanted: r.wanted,
-        aside: r.aside,
-        live: true,
-        cause: c,
-        deadline: d,
-        killed: r.killed,
-        not_before: r.not_before,
-        last_launch: r.last_launch,
-        window_start: r.window_start,
-        restarts: r.restarts,
-    }
+    let mut q = moved(Phase::Ending, c, d, r);
+    q.live = true;
+    q
 }
 
 // Rule 8 where the service was starting.
@@ -150,40 +120,16 @@ fn time_out(v: Settings, now: u64, r: Record) -> Record
     let c = r.cause;
     let e = user_or_failed(c);
     let d = deadline_in(now, v.stop_timeout);
-    Record {
-        phase: Phase::Ending,
-        wanted: r.wanted,
-        aside: r.aside,
-        live: r.live,
-        cause: e,
-        deadline: d,
-        killed: r.killed,
-        not_before: r.not_before,
-        last_launch: r.last_launch,
-        window_start: r.window_start,
-        restarts: r.restarts,
-    }
+    moved(Phase::Ending, e, d, r)
 }
 
 // Rule 8 where it was ending.
 fn kill(v: Settings, now: u64, r: Record) -> Record
     ensures { λ q. ⌜ q ≡ expired false v now r ⌝ }
 {
-    let c = r.cause;
-    let d = r.deadline;
-    Record {
-        phase: Phase::Ending,
-        wanted: r.wanted,
-        aside: r.aside,
-        live: r.live,
-        cause: c,
-        deadline: d,
-        killed: true,
-        not_before: r.not_before,
-        last_launch: r.last_launch,
-        window_start: r.window_start,
-        restarts: r.restarts,
-    }
+    let mut q = with_phase(Phase::Ending, r);
+    q.killed = true;
+    q
 }
 
 fn expire(v: Settings, now: u64, r: Record) -> Record

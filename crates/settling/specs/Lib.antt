@@ -1,2 +1,3 @@
 -- The definitions, each file after those that it cites.
 pub mod Sound
+pub mod Rest

@@ -1,10 +1,7 @@
--- What list 24 says of the times of one service: under it no sum of settling or of a deadline passes 64 bits. And a record at rest.
+-- What list 24 says of the times of one service: under it no sum of settling or of a deadline passes 64 bits.
 use Prim.Native.Nat.{ℕ, _≤_}
-use mathlib.Core.Bool.{Bool, false, _&&_}
+use mathlib.Core.Bool.{Bool, _&&_}
 use lib.Dec.{leb}
-use Rattle.service.specs.declared.Phase.the-variants.{Down}
-use Rattle.service.specs.declared.Cause.the-variants.{None as NoCause}
-use Rattle.service.specs.declared.Deadline.the-variants.{None as NoDeadline}
 use Rattle.service.specs.declared.Settings.{Settings}
 use Rattle.service.specs.declared.Record.{Record}
 use Rattle.service.specs.Limits.{longestTime, maxCount, lastClock}
@@ -22,19 +19,3 @@ pub record Sound (v : Settings) (now : ℕ) (r : Record) : Type 0 where
   pub launch : r .«last_launch» ≤ now
   pub window : r .«window_start» ≤ now
   pub count : r .restarts ≤ maxCount
-
--- a settled record whose times stay
-abbrev pub atRest : Bool → Bool → Record → Record
-atRest wanted aside r = record {
-  phase = Down;
-  wanted = wanted;
-  aside = aside;
-  live = r .live;
-  cause = NoCause;
-  deadline = NoDeadline;
-  killed = false;
-  «not_before» = r .«not_before»;
-  «last_launch» = r .«last_launch»;
-  «window_start» = r .«window_start»;
-  restarts = r .restarts;
-}

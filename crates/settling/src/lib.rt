@@ -1,23 +1,23 @@
-// Settling: the record of a service that has ended, by its cause, with the restart window, limit and delay. Beside it what other changes
-// of a record share: the test of its times, and a record with another cause, with another phase, or at rest.
+// Settling: the record of a service that has ended, by its cause; a fall counted with the restart window, limit and delay. Beside it what
+// other changes of a record share: the test of its times, and a record at rest.
 use service::Cause;
 use service::Deadline;
 use service::LAST_CLOCK;
 use service::Phase;
 use service::Record;
 use service::Settings;
+use service::moved;
 use wellformed::settings_in_range;
 use wellformed::times_in_range;
 ghost use mathlib.Core.Path.{_≡_};
 ghost use mathlib.Core.Bool.{true, false};
-ghost use Prim.Native.Nat.{suc, _≤_};
+ghost use Prim.Native.Nat.{suc, _-_, _≤_};
 ghost use Rattle.base.specs.Folds.{pick};
 ghost use Rattle.service.specs.Limits.{maxCount};
 ghost use Rattle.service.specs.declared.Cause.the-variants.{Fell};
-ghost use Rattle.rules.specs.Settling.{settled, settledAs};
-ghost use Rattle.rules.specs.Events.{withCause};
-ghost use Rattle.rules.specs.Rules.{withPhase};
-ghost use Rattle.settling.specs.Sound.{sound, Sound, atRest};
+ghost use Rattle.rules.specs.Settling.{windowOver, limitReached, settled, settledAs};
+ghost use Rattle.settling.specs.Sound.{sound, Sound};
+ghost use Rattle.settling.specs.Rest.{atRest, fallCounted};
 
 // The times of the record and the settings are in range, and so is the clock.
 pub fn is_sound(v: Settings, now: u64, r: Record) -> bool
@@ -33,10 +33,25 @@ fn either_number(test: bool, a: u64, b: u64) -> u64
     if test { a } else { b }
 }
 
+// The time from a moment to the clock, none where the moment is still to come.
+fn time_since(now: u64, moment: u64) -> u64
+    ensures { λ d. ⌜ d ≡ now - moment ⌝ }
+{
+    if now < moment {
+        return 0;
+    }
+    now - moment
+}
+
+fn is_window_over(v: Settings, now: u64, r: Record) -> bool
+    ensures { λ b. ⌜ b ≡ windowOver v now r ⌝ }
+{
+    v.interval <= time_since(now, r.window_start)
+}
+
 // The count in the window: none where the window is over.
 fn window_count(over: bool, n: u64) -> u64
-    requires { ⌜ n ≤ maxCount ⌝ }
-    ensures { λ m. ⌜ (m ≡ pick over 0 n) × (m ≤ maxCount) ⌝ }
+    ensures { λ m. ⌜ (m ≡ pick over 0 n) × (m ≤ n) ⌝ }
 {
     if over { 0 } else { n }
 }
@@ -49,90 +64,63 @@ fn next_count(stays: bool, n: u64) -> u64
     if stays { n } else { n + 1 }
 }
 
-pub fn with_cause(c: Cause, r: Record) -> Record
-    ensures { λ q. ⌜ q ≡ withCause c r ⌝ }
+// As many restarts have been counted in the window as the limit allows.
+pub fn limit_reached(v: Settings, now: u64, r: Record) -> bool
+    ensures { λ b. ⌜ b ≡ limitReached v now r ⌝ }
 {
-    let p = r.phase;
-    let d = r.deadline;
-    Record {
-        phase: p,
-        wanted: r.wanted,
-        aside: r.aside,
-        live: r.live,
-        cause: c,
-        deadline: d,
-        killed: r.killed,
-        not_before: r.not_before,
-        last_launch: r.last_launch,
-        window_start: r.window_start,
-        restarts: r.restarts,
-    }
+    let over = is_window_over(v, now, r);
+    let count = window_count(over, r.restarts);
+    (v.limit != 0) & (v.limit <= count)
 }
 
-pub fn with_phase(p: Phase, r: Record) -> Record
-    ensures { λ q. ⌜ q ≡ withPhase p r ⌝ }
+fn count_sound(v: Settings, now: u64, r: Record) -> Record
+    requires { ⌜ Sound v now r ⌝ }
+    ensures { λ q. ⌜ q ≡ fallCounted v now r ⌝ }
 {
-    let c = r.cause;
-    let d = r.deadline;
-    Record {
-        phase: p,
-        wanted: r.wanted,
-        aside: r.aside,
-        live: r.live,
-        cause: c,
-        deadline: d,
-        killed: r.killed,
-        not_before: r.not_before,
-        last_launch: r.last_launch,
-        window_start: r.window_start,
-        restarts: r.restarts,
+    let over = is_window_over(v, now, r);
+    let count = window_count(over, r.restarts);
+    let reached = limit_reached(v, now, r);
+    let mut q = r;
+    q.not_before = either_number(reached, r.not_before, r.last_launch + v.delay);
+    q.window_start = either_number(over, now, r.window_start);
+    q.restarts = next_count(reached | (v.limit == 0), count);
+    q
+}
+
+// The record with a fall counted: its window, the count in it and the time before which it is not launched again. A record whose times
+// are out of range is left as it is.
+pub fn count_fall(v: Settings, now: u64, r: Record) -> Record
+    ensures { λ q. ⌜ q ≡ pick (sound v now r) (fallCounted v now r) r ⌝ }
+{
+    if is_sound(v, now, r) {
+        return count_sound(v, now, r);
     }
+    r
 }
 
 // Down, no cause, no deadline, not killed, and wanted and aside as told.
 pub fn at_rest(wanted: bool, aside: bool, r: Record) -> Record
     ensures { λ q. ⌜ q ≡ atRest wanted aside r ⌝ }
 {
-    Record {
-        phase: Phase::Down,
-        wanted: wanted,
-        aside: aside,
-        live: r.live,
-        cause: Cause::None,
-        deadline: Deadline::None,
-        killed: false,
-        not_before: r.not_before,
-        last_launch: r.last_launch,
-        window_start: r.window_start,
-        restarts: r.restarts,
-    }
+    let mut q = moved(Phase::Down, Cause::None, Deadline::None, r);
+    q.wanted = wanted;
+    q.aside = aside;
+    q.killed = false;
+    q
 }
 
 // A fall, counted in the restart window.
 fn settle_fall(v: Settings, now: u64, r: Record) -> Record
-    requires { ⌜ Sound v now r ⌝ }
+    requires { ⌜ sound v now r ≡ true ⌝ }
     ensures { λ q. ⌜ q ≡ settledAs Fell v now r ⌝ }
 {
-    let over = v.interval <= now - r.window_start;
-    let count = window_count(over, r.restarts);
-    let reached = (v.limit != 0) & (v.limit <= count);
-    Record {
-        phase: Phase::Down,
-        wanted: !reached & r.wanted & v.restart,
-        aside: reached | r.aside,
-        live: r.live,
-        cause: Cause::None,
-        deadline: Deadline::None,
-        killed: false,
-        not_before: either_number(reached, r.not_before, r.last_launch + v.delay),
-        last_launch: r.last_launch,
-        window_start: either_number(over, now, r.window_start),
-        restarts: next_count(reached | (v.limit == 0), count),
-    }
+    let reached = limit_reached(v, now, r);
+    let counted = count_fall(v, now, r);
+    at_rest(!reached & r.wanted & v.restart, reached | r.aside, counted)
 }
 
 fn settle_sound(v: Settings, now: u64, r: Record) -> Record
-    requires { ⌜ Sound v now r ⌝ }
+    requires { ⌜ sound v now r ≡ true ⌝ }
     ensures { λ q. ⌜ q ≡ settled v now r ⌝ }
 {
     let c = r.cause;

@@ -5,7 +5,7 @@ use lib.Dec.{leb}
 use Rattle.base.specs.Sets.{hasBit, overlap}
 use Rattle.service.specs.Records.{isDown, isWaiting, isStarting, isUp, isEnding, isNone}
 use Rattle.service.specs.declared.Settings.{Settings}
-use Rattle.service.specs.Settings.{strongOf}
+use Rattle.service.specs.Settings.{formOf, strongOf}
 use Rattle.service.specs.declared.Record.{Record}
 use Rattle.rules.specs.Dependencies.{closing}
 use Rattle.rules.specs.Rules.{running, nothingToEnd, due}
@@ -19,7 +19,7 @@ abbrev pub abandonBy : Settings → Record → Standing → Bool
 abandonBy v r st = isWaiting (r .phase) && overlap (strongOf v) (st .barred)
 
 abbrev pub settleBy : Settings → Record → Standing → ℕ → Bool
-settleBy v r st s = closing r && not (hasBit (st .blocked) s) && nothingToEnd (v .kind) (v .«has_stop») (r .live)
+settleBy v r st s = closing r && not (hasBit (st .blocked) s) && nothingToEnd (formOf v) (v .«has_stop») (r .live)
 
 abbrev pub wakeBy : Record → Standing → ℕ → Bool
 wakeBy r st s = isDown (r .phase) && not (r .aside) && (r .wanted || hasBit (st .called) s)

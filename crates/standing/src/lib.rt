@@ -16,10 +16,11 @@ use record_tests::is_up;
 use record_tests::is_user;
 use record_tests::is_waiting;
 use service::Deadline;
-use service::Kind;
+use service::Form;
 use service::Record;
 use service::Settings;
 use service::all_links;
+use service::form_of;
 use service::strong_links;
 ghost use mathlib.Core.Path.{_≡_};
 ghost use Rattle.rules.specs.Rules.{nothingToEnd, due};
@@ -91,13 +92,14 @@ pub fn noted(st: Standing, v: Settings, r: Record, i: usize) -> Standing
     }
 }
 
-fn nothing_to_end(k: Kind, command: bool, live: bool) -> bool
-    ensures { λ b. ⌜ b ≡ nothingToEnd k command live ⌝ }
+fn nothing_to_end(f: Form, command: bool, live: bool) -> bool
+    ensures { λ b. ⌜ b ≡ nothingToEnd f command live ⌝ }
 {
-    match k {
-        Kind::Process => !live,
-        Kind::Scripted => !command,
-        Kind::Internal => true,
+    match f {
+        Form::Bare => true,
+        Form::Passing => !command,
+        Form::Direct => !live,
+        Form::Delayed => !live,
     }
 }
 
@@ -130,8 +132,8 @@ fn fits_abandon(v: Settings, r: Record, st: Standing) -> bool
 fn fits_settle(v: Settings, r: Record, st: Standing, s: usize) -> bool
     ensures { λ b. ⌜ b ≡ settleBy v r st s ⌝ }
 {
-    let k = v.kind;
-    is_closing(r) & !has_bit(st.blocked, s) & nothing_to_end(k, v.has_stop, r.live)
+    let f = form_of(v);
+    is_closing(r) & !has_bit(st.blocked, s) & nothing_to_end(f, v.has_stop, r.live)
 }
 
 // Rule 4.

@@ -3,11 +3,11 @@ use base::is_within;
 use reach::has_cycle;
 use reach::reach_of;
 use record_tests::is_none;
-use record_tests::is_process;
-use record_tests::is_scripted;
+use record_tests::lives_up;
+use record_tests::starts_first;
 use service::Cause;
 use service::Deadline;
-use service::Kind;
+use service::Form;
 use service::LAST_CLOCK;
 use service::LAST_TIME;
 use service::LONGEST_TIME;
@@ -19,6 +19,7 @@ use service::Settings;
 use service::State;
 use service::Table;
 use service::all_links;
+use service::form_of;
 ghost use mathlib.Core.Path.{_≡_};
 ghost use mathlib.Core.Bool.{_&&_};
 ghost use Prim.Native.Nat.{_≤_};
@@ -77,14 +78,14 @@ fn implied(a: bool, b: bool) -> bool
 }
 
 // The record is one of those that list 24 lets pass.
-fn is_shaped(k: Kind, p: Phase, live: bool, c: Cause) -> bool
-    ensures { λ b. ⌜ b ≡ shaped k p live c ⌝ }
+fn is_shaped(f: Form, p: Phase, live: bool, c: Cause) -> bool
+    ensures { λ b. ⌜ b ≡ shaped f p live c ⌝ }
 {
     match p {
         Phase::Down => !live & is_none(c),
         Phase::Waiting => !live & is_none(c),
-        Phase::Starting => is_scripted(k) & live,
-        Phase::Up => implied(live, is_process(k)) & implied(is_none(c) & is_process(k), live),
+        Phase::Starting => starts_first(f) & live,
+        Phase::Up => implied(live, lives_up(f)) & implied(is_none(c) & lives_up(f), live),
         Phase::Ending => live & !is_none(c),
     }
 }
@@ -93,12 +94,12 @@ fn is_shaped(k: Kind, p: Phase, live: bool, c: Cause) -> bool
 fn place_formed(n: usize, now: u64, v: Settings, r: Record) -> bool
     ensures { λ b. ⌜ b ≡ placeFormed n now v r ⌝ }
 {
-    let k = v.kind;
+    let f = form_of(v);
     let p = r.phase;
     let c = r.cause;
     links_inside(n, v)
         & settings_in_range(v)
-        & (times_in_range(now, r) & is_shaped(k, p, r.live, c))
+        & (times_in_range(now, r) & is_shaped(f, p, r.live, c))
 }
 
 // Each service's dependencies of any kind.

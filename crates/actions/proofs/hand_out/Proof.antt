@@ -19,10 +19,10 @@ returns-5 : tie.Need-returns-5
 returns-5 c = rw (c .enum-told5 .given .1)
 
 returns-6 : tie.Need-returns-6
-returns-6 c = rw (c .begun-action .ensures, c .before .enum-told6 .given .1)
+returns-6 c = rw (c .begun-action .ensures, c .before .enum-told6 .given .1, c .before .before .before .form-of .ensures)
 
 returns-7 : tie.Need-returns-7
-returns-7 c = rw (c .end-action .ensures, c .before .enum-told7 .given .1)
+returns-7 c = rw (c .end-action .ensures, c .before .enum-told7 .given .1, c .before .before .before .form-of .ensures)
 
 returns-8 : tie.Need-returns-8
 returns-8 c = rw (c .expired-action .ensures, c .before .enum-told8 .given .1)
@@ -31,6 +31,7 @@ pub hand-out-spec : {M : Type 1} → statement M
 hand-out-spec =
     tie.close
     (tie.spec
+    (λ c κs. search needs)
     (λ c. search needs)
     (λ c. search needs)
     (λ c. search needs)

@@ -4,8 +4,16 @@ use Rattle.event_records.proofs.start_record.Statement.{statement}
 use Rattle.event_records.proofs.start_record.Tie as tie
 
 returns : tie.Need-returns
-returns c = rw (c .zero-if .ensures, c .before .cause-if .ensures, c .before .before .revived .ensures)
+returns c =
+    let at-cause = c .before .before .before in
+    rw (c .zero-if .ensures, at-cause .with-cause .ensures, at-cause .before .cause-if .ensures, at-cause .before .before .revived .ensures)
 
 pub start-record-spec : {M : Type 1} → statement M
 start-record-spec =
-    tie.close (tie.spec (λ c κs. search needs) (λ c κs. search needs) (λ c κs. search needs) returns)
+    tie.close
+    (tie.spec
+    (λ c κs. search needs)
+    (λ c κs. search needs)
+    (λ c κs. search needs)
+    (λ c κs. search needs)
+    returns)

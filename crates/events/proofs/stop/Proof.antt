@@ -35,8 +35,8 @@ stop-spec =
     (λ c. let h : c .before .before .before .before .before .args .t .count ≤ maxServices = search formed-few in search needs)
     (λ c. let h : c .before .before .before .before .before .args .t .count ≤ maxServices = search formed-few in search needs)
     (λ c κs. search needs)
+    (λ c κs. search needs)
+    (λ c κs. search needs)
     returns
-    (λ c κs. search needs)
     returns-2
-    (λ c κs. search needs)
     returns-3)

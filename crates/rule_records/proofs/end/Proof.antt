@@ -4,7 +4,8 @@ use Rattle.rule_records.proofs.end.Statement.{statement}
 use Rattle.rule_records.proofs.end.Tie as tie
 
 returns : tie.Need-returns
-returns c = rw (c .deadline-in .ensures)
+returns c = rw (c .moved .ensures, c .before .deadline-in .ensures)
 
 pub end-spec : {M : Type 1} → statement M
-end-spec = tie.close (tie.spec (λ c κs. search needs) returns)
+end-spec =
+    tie.close (tie.spec (λ c κs. search needs) (λ c κs. search needs) returns)

@@ -4,7 +4,8 @@ use Rattle.rule_records.proofs.time_out.Statement.{statement}
 use Rattle.rule_records.proofs.time_out.Tie as tie
 
 returns : tie.Need-returns
-returns c = rw (c .deadline-in .ensures, c .before .user-or-failed .ensures)
+returns c = rw (c .moved .ensures, c .before .deadline-in .ensures, c .before .before .user-or-failed .ensures)
 
 pub time-out-spec : {M : Type 1} → statement M
-time-out-spec = tie.close (tie.spec (λ c κs. search needs) (λ c κs. search needs) returns)
+time-out-spec =
+    tie.close (tie.spec (λ c κs. search needs) (λ c κs. search needs) (λ c κs. search needs) returns)

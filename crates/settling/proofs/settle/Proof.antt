@@ -1,11 +1,11 @@
 -- `settle` meets its contract: what is sound is settled.
-use Rattle.settling.proofs.Bounds.{sound-facts}
+use mathlib.Core.Path.{sym, _∙_}
 use borrow.Author.Needs.{needs}
 use Rattle.settling.proofs.settle.Statement.{statement}
 use Rattle.settling.proofs.settle.Tie as tie
 
 settle-sound-requires : tie.Need-settle-sound-requires
-settle-sound-requires c κs = search sound-facts
+settle-sound-requires c κs = sym (c .before .is-sound .ensures) ∙ c .if1 .taken
 
 returns : tie.Need-returns
 returns c = simp (c .settle-sound .ensures, ← c .before .before .is-sound .ensures, c .before .if1 .taken)

@@ -8,4 +8,4 @@ returns c = cc
 
 pub fits-settle-spec : {M : Type 1} → statement M
 fits-settle-spec =
-    tie.close (tie.spec (λ c κs. search needs) (λ c κs. search needs) (λ c κs. search needs) returns)
+    tie.close (tie.spec (λ c κs. search needs) (λ c κs. search needs) (λ c κs. search needs) (λ c κs. search needs) returns)

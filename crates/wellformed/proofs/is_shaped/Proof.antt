@@ -10,10 +10,20 @@ returns-2 : tie.Need-returns-2
 returns-2 c = rw (c .is-none2 .ensures, c .before .enum-told2 .given .1)
 
 returns-3 : tie.Need-returns-3
-returns-3 c = rw (c .is-scripted .ensures, c .before .enum-told3 .given .1)
+returns-3 c = rw (c .starts-first .ensures, c .before .enum-told3 .given .1)
 
 returns-4 : tie.Need-returns-4
-returns-4 c = rw (c .implied2 .ensures, c .before .is-process2 .ensures, c .before .before .is-none3 .ensures, c .before .before .before .implied .ensures, c .before .before .before .before .is-process .ensures, c .before .before .before .before .before .enum-told4 .given .1)
+returns-4 c =
+    let at-none = c .before .before in
+    let at-lives = at-none .before .before in
+    rw (
+      c .implied2 .ensures,
+      c .before .lives-up2 .ensures,
+      at-none .is-none3 .ensures,
+      at-none .before .implied .ensures,
+      at-lives .lives-up .ensures,
+      at-lives .before .enum-told4 .given .1,
+    )
 
 returns-5 : tie.Need-returns-5
 returns-5 c = rw (c .is-none4 .ensures, c .before .enum-told5 .given .1)
