@@ -1,13 +1,16 @@
 -- "each text in turn: 6 over the whole text, its lines, 13, 14"
 use Prim.Native.Nat.{ℕ, _+_}
-use mathlib.Core.Bool.{_||_, _&&_}
+use mathlib.Core.Bool.{Bool, _&&_, true, false}
 use mathlib.Core.List.{List, [], _∷_}
 use lib.Dec.{eqb}
 use lib.ListN.{length}
 use Rattle.base.specs.Folds.{pick}
+use Rattle.service.specs.declared.Kind.{Kind}
+use Rattle.service.specs.declared.Kind.the-variants.{Internal, Process, Scripted}
 use Rattle.text.specs.Lines.{fault, linesOf, badFrom}
 use Rattle.text.specs.declared.Verdict.{Verdict}
 use Rattle.text.specs.declared.Verdict.the-variants.{Good, Bad}
+use Rattle.word.specs.Words.{kindFrom}
 use Rattle.description.specs.declared.Description.{Description}
 use Rattle.description.specs.declared.Line.{Line}
 use Rattle.description.specs.declared.Line.the-variants.{Good as GoodLine, Bad as BadLine}
@@ -24,11 +27,17 @@ abbrev pub readOn : Line → Description → (Description → Read) → Read
 readOn (GoodLine e) d on = on (affected d e)
 readOn (BadLine f) d on = readAs (Bad f) d
 
+-- "process or scripted"
+abbrev pub needsCommand : Kind → Bool
+needsCommand Process = true
+needsCommand Scripted = true
+needsCommand Internal = false
+
 -- 13 / 14: "no type / process or scripted without command"; they have no byte that decides
 unfoldable pub completion : Description → Verdict
 completion d =
     pick (eqb (valueOf d 0) 0) (Bad (fault 13 0))
-    (pick ((eqb (valueOf d 0) 1 || eqb (valueOf d 0) 2) && eqb (valueOf d 1) 0) (Bad (fault 14 0)) Good)
+    (pick (needsCommand (kindFrom (valueOf d 0)) && eqb (valueOf d 1) 0) (Bad (fault 14 0)) Good)
 
 -- the lines that are left, of which the first begins at the offset `from`
 unfoldable pub linesRead : List ℕ → Description → ℕ → List (List ℕ) → Read

@@ -1,5 +1,8 @@
 // What one description holds: its settings and the dependencies that it names, and what a line with a good value adds to them.
+use service::Kind;
 use service::Settings;
+use service::Signal;
+use service::signal_number;
 use text::Fault;
 use text::Verdict;
 use text::line_end;
@@ -11,12 +14,13 @@ use value::WORD_ROOM;
 use value::write_word;
 use word::Setting;
 use word::is_name;
+use word::kind_from;
 use word::read_setting;
 ghost use mathlib.Core.Path.{_≡_};
 ghost use Rattle.value.specs.Stores.{Puts};
 ghost use Rattle.description.specs.Settings.{blank, valueAt, wordAt, isDependency, known};
 ghost use Rattle.description.specs.Lines.{dependencyRead, settingRead, wordRead, tokensRead};
-ghost use Rattle.description.specs.Texts.{completion};
+ghost use Rattle.description.specs.Texts.{needsCommand, completion};
 
 // How many dependencies a service may have.
 pub const MAX_DEPENDENCIES: usize = 16;
@@ -30,8 +34,8 @@ pub struct Dependency {
     pub at: usize,
 }
 
-// The settings of one description, by the number of their property: a type from 1, the offset of a command's value, a flag,
-// a time, a count, a signal's place; and its dependencies, of which there are `count`.
+// The settings of one description, by the number of their property: a type's value, the offset of a command's value, a flag,
+// a time, a count, a signal's number; and its dependencies, of which there are `count`.
 pub struct Description {
     pub values: [u64; PROPERTIES],
     pub count: usize,
@@ -63,6 +67,7 @@ impl Description {
         ensures { λ r. ⌜ r ≡ blank ⌝ }
     {
         let none = Dependency { property: 0, at: 0 };
+        let signal = signal_number(Signal::Term);
         Description {
             values: [
                 0,
@@ -78,7 +83,7 @@ impl Description {
                 0,
                 0,
                 0,
-                3,
+                signal,
             ],
             count: 0,
             dependencies: [none; MAX_DEPENDENCIES],
@@ -227,6 +232,17 @@ pub fn read_tokens(
     })
 }
 
+// A service of this type is launched by a command.
+fn needs_command(k: Kind) -> bool
+    ensures { λ b. ⌜ b ≡ needsCommand k ⌝ }
+{
+    match k {
+        Kind::Process => true,
+        Kind::Scripted => true,
+        Kind::Internal => false,
+    }
+}
+
 // 13 and 14.
 pub fn complete(d: Description) -> Verdict
     ensures { λ r. ⌜ r ≡ completion d ⌝ }
@@ -234,7 +250,7 @@ pub fn complete(d: Description) -> Verdict
     let kind = d.values[0];
     let command = d.values[1];
     let missing = kind == 0;
-    let lacking = ((kind == 1) | (kind == 2)) & (command == 0);
+    let lacking = needs_command(kind_from(kind)) & (command == 0);
     if missing {
         return Verdict::Bad(Fault { number: 13, at: 0 });
     }

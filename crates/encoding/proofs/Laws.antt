@@ -1,4 +1,4 @@
--- The loops over the places, one that reads a value for each and one that puts twelve numbers for each; and what was read, joined.
+-- The loops over the places, one that reads a value for each and one that puts the numbers of each; and what was read, joined.
 use Prim.Native.Nat.{ℕ, _+_, _≤_, _<_}
 use native.Mathlib.Numerals.{add-one}
 use native.Mathlib.Omega.{arith}
@@ -32,7 +32,7 @@ module _ {A : Type 0} {F : ℕ → A} {a : List A} {n : ℕ} where
       let s : n ≡ i = omega arith in
       rw s (h .is)
 
--- b is a with the twelve numbers G j for each service j below i, of n
+-- b is a with the numbers G j at the place of each service j below i, of n
 pub record Writing (G : ℕ → List ℕ) (a : List ℕ) (n : ℕ) (b : List ℕ) (i : ℕ) : Type 0 where
   pub within : i ≤ n
   pub is : b ≡ fold (λ m j. placed m (placeOf j) (G j)) a i

@@ -1,4 +1,5 @@
 -- The definitions, each file after those that it cites.
 pub mod Values
 pub mod Numbers
+pub mod Meaning
 pub mod Examples

@@ -1,25 +1,46 @@
--- A table and a state as numbers, and back.
-use Prim.Native.Nat.{ℕ, _+_, _*_}
-use mathlib.Core.List.{List, [], _∷_}
+-- A table and a state as numbers, and back: two in front, and then sixteen for each place.
+use Prim.Native.Nat.{ℕ, _+_, _*_, _-_}
+use mathlib.Core.List.{List, _∷_}
 use lib.ListN.{getD, set, replicate}
 use Rattle.base.specs.Folds.{fold}
 use Rattle.service.specs.Limits.{maxServices}
-use Rattle.service.specs.Numbers.{signalNumber}
+use Rattle.service.specs.Numbers.{causeAt, causeNumber, kindAt, kindNumber, phaseAt, phaseNumber, signalAt, signalNumber}
 use Rattle.service.specs.Records.{freshRecord, recordAt}
 use Rattle.service.specs.Settings.{defaultSettings, settingsAt}
 use Rattle.service.specs.declared.Record.{Record}
 use Rattle.service.specs.declared.Settings.{Settings}
 use Rattle.service.specs.declared.State.{State}
 use Rattle.service.specs.declared.Table.{Table}
-use Rattle.encoding.specs.Values.{flagNumber, flagOf, kindNumber, kindOf, signalOf, phaseNumber, phaseOf, causeNumber, causeOf, timed, timeOf, deadlineOf}
+use Rattle.encoding.specs.Values.{deadlineOf, flagNumber, flagOf, timed, timeOf}
 
--- the place of the first number of service s: the count of services or the clock stands before them all
+-- in front stands the count of services or the clock, and a 0
+abbrev pub inFront : ℕ
+inFront = 2
+
+-- each place has a record's numbers, or the settings' of a service, and else 0
+abbrev pub perPlace : ℕ
+perPlace = 16
+
+abbrev pub used : ℕ
+used = 12
+
+abbrev pub unused : List ℕ
+unused = replicate (perPlace - used) 0
+
+abbrev pub allNumbers : ℕ
+allNumbers = inFront + perPlace * maxServices
+
+-- the place of the first number of service s
 abbrev pub placeOf : ℕ → ℕ
-placeOf s = 1 + 12 * s
+placeOf s = inFront + perPlace * s
 
--- the numbers vs, twelve of them, from the place a on
+-- the numbers n and 0 in front
+abbrev pub headed : List ℕ → ℕ → List ℕ
+headed l n = set (set l 0 n) 1 0
+
+-- the numbers vs, those of one place, from a on
 abbrev pub placed : List ℕ → ℕ → List ℕ → List ℕ
-placed l a vs = fold (λ m k. set m (a + k) (getD vs k 0)) l 12
+placed l a vs = fold (λ m k. set m (a + k) (getD vs k 0)) l perPlace
 
 -- ---- the state
 
@@ -38,15 +59,15 @@ recordNumbers r =
     ∷ r .«last_launch»
     ∷ r .«window_start»
     ∷ r .restarts
-    ∷ []
+    ∷ unused
 
 unfoldable pub recordFrom : List ℕ → ℕ → Record
 recordFrom l a = record {
-  phase = phaseOf (getD l a 0);
+  phase = phaseAt (getD l a 0);
   wanted = flagOf (getD l (a + 1) 0);
   aside = flagOf (getD l (a + 2) 0);
   live = flagOf (getD l (a + 3) 0);
-  cause = causeOf (getD l (a + 4) 0);
+  cause = causeAt (getD l (a + 4) 0);
   deadline = deadlineOf (getD l (a + 5) 0) (getD l (a + 6) 0);
   killed = flagOf (getD l (a + 7) 0);
   «not_before» = getD l (a + 8) 0;
@@ -57,7 +78,7 @@ recordFrom l a = record {
 
 -- what the numbers l become where the state x is written to them
 unfoldable pub stateNumbers : List ℕ → State → List ℕ
-stateNumbers l x = fold (λ m s. placed m (placeOf s) (recordNumbers (recordAt x s))) (set l 0 (x .clock)) maxServices
+stateNumbers l x = fold (λ m s. placed m (placeOf s) (recordNumbers (recordAt x s))) (headed l (x .clock)) maxServices
 
 unfoldable pub stateOf : List ℕ → State
 stateOf l = record {
@@ -82,14 +103,14 @@ settingsNumbers v =
     ∷ v .milestone
     ∷ v .soft
     ∷ flagNumber (v .«has_stop»)
-    ∷ []
+    ∷ unused
 
 unfoldable pub settingsFrom : List ℕ → ℕ → Settings
 settingsFrom l a = record {
-  kind = kindOf (getD l a 0);
+  kind = kindAt (getD l a 0);
   restart = flagOf (getD l (a + 1) 0);
   «has_stop» = flagOf (getD l (a + 11) 0);
-  signal = signalOf (getD l (a + 7) 0);
+  signal = signalAt (getD l (a + 7) 0);
   delay = getD l (a + 2) 0;
   interval = getD l (a + 3) 0;
   limit = getD l (a + 4) 0;
@@ -101,7 +122,7 @@ settingsFrom l a = record {
 }
 
 unfoldable pub tableNumbers : List ℕ → Table → List ℕ
-tableNumbers l t = fold (λ m s. placed m (placeOf s) (settingsNumbers (settingsAt t s))) (set l 0 (t .count)) maxServices
+tableNumbers l t = fold (λ m s. placed m (placeOf s) (settingsNumbers (settingsAt t s))) (headed l (t .count)) maxServices
 
 unfoldable pub tableOf : List ℕ → Table
 tableOf l = record {

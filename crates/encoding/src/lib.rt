@@ -1,150 +1,49 @@
 // A table and a state as plain numbers, and back: for a program that keeps them, shows them or sets them number by number.
-// The first number is the count of services or the clock; then come twelve for each place, in paper 01's order.
-use service::Cause;
+// The first number is the count of services or the clock, the second 0; then come sixteen for each place: twelve in paper 01's order, and 0.
+mod meaning;
+
+pub use meaning::is_state;
+pub use meaning::is_table;
 use service::Deadline;
-use service::Kind;
 use service::MAX_SERVICES;
-use service::Phase;
 use service::Record;
-use service::Refusal;
 use service::Settings;
-use service::Signal;
 use service::State;
 use service::Table;
+use service::cause_at;
+use service::cause_number;
+use service::kind_at;
+use service::kind_number;
+use service::phase_at;
+use service::phase_number;
+use service::signal_at;
+use service::signal_number;
 ghost use mathlib.Core.Path.{_≡_};
-ghost use Prim.Native.Nat.{_+_, _*_, _<_, _≤_};
-ghost use lib.ListN.{getD, set};
+ghost use Prim.Native.Nat.{_+_, _≤_};
+ghost use lib.ListN.{set};
 ghost use Rattle.base.specs.Folds.{fold};
 ghost use Rattle.service.specs.Limits.{maxServices};
-ghost use Rattle.service.specs.Numbers.{signalNumber, refusalNumber};
-ghost use Rattle.encoding.specs.Values.{flagNumber, kindNumber, kindOf, signalOf, phaseNumber, phaseOf, causeNumber, causeOf, timed, timeOf, deadlineOf};
-ghost use Rattle.encoding.specs.Numbers.{placeOf, placed, recordNumbers, recordFrom, stateNumbers, stateOf, settingsNumbers, settingsFrom, tableNumbers, tableOf};
+ghost use Rattle.encoding.specs.Values.{flagNumber, timed, timeOf, deadlineOf};
+ghost use Rattle.encoding.specs.Numbers.{allNumbers, perPlace, placeOf, placed};
+ghost use Rattle.encoding.specs.Numbers.{recordNumbers, recordFrom, stateNumbers, stateOf, settingsNumbers, settingsFrom, tableNumbers, tableOf};
 
-// How many numbers a record takes, and the settings of a service.
-pub const EACH: usize = 12;
+// How many numbers stand before those of the places.
+pub const FRONT: usize = 2;
+
+// How many numbers each place has, and how many of these a record uses, or the settings of a service.
+pub const EACH: usize = 16;
+
+pub const USED: usize = 12;
 
 // How many numbers a state takes, and a table.
-pub const ALL: usize = 385;
+pub const ALL: usize = FRONT + EACH * MAX_SERVICES;
 
 pub type Numbers = [u64; ALL];
-
-// Paper 01's number of a refusal.
-pub fn refusal_number(refusal: Refusal) -> u64
-    ensures { λ n. ⌜ n ≡ refusalNumber refusal ⌝ }
-{
-    match refusal {
-        Refusal::IllFormed => 24,
-        Refusal::NoService => 20,
-        Refusal::NotLive => 21,
-        Refusal::ClockBack => 22,
-        Refusal::ClockPast => 23,
-        Refusal::NoRoom => 25,
-    }
-}
 
 fn flag_number(b: bool) -> u64
     ensures { λ n. ⌜ n ≡ flagNumber b ⌝ }
 {
     if b { 1 } else { 0 }
-}
-
-pub fn kind_number(k: Kind) -> u64
-    ensures { λ n. ⌜ n ≡ kindNumber k ⌝ }
-{
-    match k {
-        Kind::Process => 0,
-        Kind::Scripted => 1,
-        Kind::Internal => 2,
-    }
-}
-
-fn kind_of(n: u64) -> Kind
-    ensures { λ k. ⌜ k ≡ kindOf n ⌝ }
-{
-    match n {
-        0 => Kind::Process,
-        1 => Kind::Scripted,
-        _ => Kind::Internal,
-    }
-}
-
-// A signal's place in paper 01's list.
-pub fn signal_number(g: Signal) -> u64
-    ensures { λ n. ⌜ n ≡ signalNumber g ⌝ }
-{
-    match g {
-        Signal::None => 0,
-        Signal::Hup => 1,
-        Signal::Int => 2,
-        Signal::Term => 3,
-        Signal::Quit => 4,
-        Signal::Usr1 => 5,
-        Signal::Usr2 => 6,
-        Signal::Kill => 7,
-    }
-}
-
-fn signal_of(n: u64) -> Signal
-    ensures { λ g. ⌜ g ≡ signalOf n ⌝ }
-{
-    match n {
-        0 => Signal::None,
-        1 => Signal::Hup,
-        2 => Signal::Int,
-        3 => Signal::Term,
-        4 => Signal::Quit,
-        5 => Signal::Usr1,
-        6 => Signal::Usr2,
-        _ => Signal::Kill,
-    }
-}
-
-pub fn phase_number(p: Phase) -> u64
-    ensures { λ n. ⌜ n ≡ phaseNumber p ⌝ }
-{
-    match p {
-        Phase::Down => 0,
-        Phase::Waiting => 1,
-        Phase::Starting => 2,
-        Phase::Up => 3,
-        Phase::Ending => 4,
-    }
-}
-
-fn phase_of(n: u64) -> Phase
-    ensures { λ p. ⌜ p ≡ phaseOf n ⌝ }
-{
-    match n {
-        0 => Phase::Down,
-        1 => Phase::Waiting,
-        2 => Phase::Starting,
-        3 => Phase::Up,
-        _ => Phase::Ending,
-    }
-}
-
-pub fn cause_number(c: Cause) -> u64
-    ensures { λ n. ⌜ n ≡ causeNumber c ⌝ }
-{
-    match c {
-        Cause::None => 0,
-        Cause::User => 1,
-        Cause::Released => 2,
-        Cause::Fell => 3,
-        Cause::Failed => 4,
-    }
-}
-
-fn cause_of(n: u64) -> Cause
-    ensures { λ c. ⌜ c ≡ causeOf n ⌝ }
-{
-    match n {
-        0 => Cause::None,
-        1 => Cause::User,
-        2 => Cause::Released,
-        3 => Cause::Fell,
-        _ => Cause::Failed,
-    }
 }
 
 fn is_timed(d: Deadline) -> bool
@@ -195,39 +94,36 @@ fn record_numbers(r: Record) -> [u64; EACH]
         r.last_launch,
         r.window_start,
         r.restarts,
+        0,
+        0,
+        0,
+        0,
     ]
-}
-
-fn number_at(numbers: &Numbers, i: usize) -> u64
-    requires { ⌜ i < 385 ⌝ }
-    ensures { λ n. ⌜ n ≡ getD (now (numbers .entry)) i 0 ⌝ }
-{
-    numbers[i]
 }
 
 // The record whose numbers begin at a place.
 fn record_from(numbers: &Numbers, at: usize) -> Record
-    requires { ⌜ at ≤ 373 ⌝ }
+    requires { ⌜ at + perPlace ≤ allNumbers ⌝ }
     ensures { λ r. ⌜ r ≡ recordFrom (now (numbers .entry)) at ⌝ }
 {
     Record {
-        phase: phase_of(number_at(numbers, at)),
-        cause: cause_of(number_at(numbers, at + 4)),
-        wanted: number_at(numbers, at + 1) == 1,
-        aside: number_at(numbers, at + 2) == 1,
-        live: number_at(numbers, at + 3) == 1,
-        killed: number_at(numbers, at + 7) == 1,
-        not_before: number_at(numbers, at + 8),
-        last_launch: number_at(numbers, at + 9),
-        window_start: number_at(numbers, at + 10),
-        restarts: number_at(numbers, at + 11),
-        deadline: deadline_of(number_at(numbers, at + 5), number_at(numbers, at + 6)),
+        wanted: numbers[at + 1] == 1,
+        aside: numbers[at + 2] == 1,
+        live: numbers[at + 3] == 1,
+        killed: numbers[at + 7] == 1,
+        not_before: numbers[at + 8],
+        last_launch: numbers[at + 9],
+        window_start: numbers[at + 10],
+        restarts: numbers[at + 11],
+        phase: phase_at(numbers[at]),
+        cause: cause_at(numbers[at + 4]),
+        deadline: deadline_of(numbers[at + 5], numbers[at + 6]),
     }
 }
 
-// Puts twelve numbers from a place on.
+// Puts the numbers of a place from there on.
 fn put(numbers: &mut Numbers, at: usize, line: [u64; EACH])
-    requires { ⌜ at ≤ 373 ⌝ }
+    requires { ⌜ at + perPlace ≤ allNumbers ⌝ }
     ensures { λ _. ⌜ now (numbers .exit) ≡ placed (now (numbers .entry)) at line ⌝ }
 {
     let mut k: usize = 0;
@@ -242,10 +138,11 @@ pub fn write_state(numbers: &mut Numbers, x: State)
     ensures { λ _. ⌜ now (numbers .exit) ≡ stateNumbers (now (numbers .entry)) x ⌝ }
 {
     numbers[0] = x.clock;
+    numbers[1] = 0;
     let mut s: usize = 0;
     while s < MAX_SERVICES {
         let line = record_numbers(x.records[s]);
-        put(numbers, 1 + EACH * s, line);
+        put(numbers, FRONT + EACH * s, line);
         s += 1;
     }
 }
@@ -257,7 +154,7 @@ fn read_records(numbers: &Numbers, none: [Record; MAX_SERVICES]) -> [Record; MAX
     let mut records = none;
     let mut s: usize = 0;
     while s < MAX_SERVICES {
-        records[s] = record_from(numbers, 1 + EACH * s);
+        records[s] = record_from(numbers, FRONT + EACH * s);
         s += 1;
     }
     records
@@ -295,27 +192,31 @@ fn settings_numbers(v: Settings) -> [u64; EACH]
         v.milestone,
         v.soft,
         flag_number(v.has_stop),
+        0,
+        0,
+        0,
+        0,
     ]
 }
 
 // The settings whose numbers begin at a place.
 fn settings_from(numbers: &Numbers, at: usize) -> Settings
-    requires { ⌜ at ≤ 373 ⌝ }
+    requires { ⌜ at + perPlace ≤ allNumbers ⌝ }
     ensures { λ v. ⌜ v ≡ settingsFrom (now (numbers .entry)) at ⌝ }
 {
     Settings {
-        kind: kind_of(number_at(numbers, at)),
-        restart: number_at(numbers, at + 1) == 1,
-        has_stop: number_at(numbers, at + 11) == 1,
-        signal: signal_of(number_at(numbers, at + 7)),
-        delay: number_at(numbers, at + 2),
-        interval: number_at(numbers, at + 3),
-        limit: number_at(numbers, at + 4),
-        start_timeout: number_at(numbers, at + 5),
-        stop_timeout: number_at(numbers, at + 6),
-        hard: number_at(numbers, at + 8),
-        milestone: number_at(numbers, at + 9),
-        soft: number_at(numbers, at + 10),
+        restart: numbers[at + 1] == 1,
+        delay: numbers[at + 2],
+        interval: numbers[at + 3],
+        limit: numbers[at + 4],
+        start_timeout: numbers[at + 5],
+        stop_timeout: numbers[at + 6],
+        hard: numbers[at + 8],
+        milestone: numbers[at + 9],
+        soft: numbers[at + 10],
+        has_stop: numbers[at + 11] == 1,
+        kind: kind_at(numbers[at]),
+        signal: signal_at(numbers[at + 7]),
     }
 }
 
@@ -324,10 +225,11 @@ pub fn write_table(numbers: &mut Numbers, t: Table)
     ensures { λ _. ⌜ now (numbers .exit) ≡ tableNumbers (now (numbers .entry)) t ⌝ }
 {
     numbers[0] = t.count as u64;
+    numbers[1] = 0;
     let mut s: usize = 0;
     while s < MAX_SERVICES {
         let line = settings_numbers(t.services[s]);
-        put(numbers, 1 + EACH * s, line);
+        put(numbers, FRONT + EACH * s, line);
         s += 1;
     }
 }
@@ -339,7 +241,7 @@ fn read_services(numbers: &Numbers, none: [Settings; MAX_SERVICES]) -> [Settings
     let mut services = none;
     let mut s: usize = 0;
     while s < MAX_SERVICES {
-        services[s] = settings_from(numbers, 1 + EACH * s);
+        services[s] = settings_from(numbers, FRONT + EACH * s);
         s += 1;
     }
     services

@@ -1,5 +1,5 @@
 -- A service given line by line into a small buffer, and the positions that a load then lends.
-use Prim.Native.Nat.{ℕ}
+use Prim.Native.Nat.{ℕ, _+_}
 use Prim.Native.String.{String}
 use mathlib.Core.List.{List, [], _∷_, _++_}
 use mathlib.Core.Path.{_≡_, refl}
@@ -8,7 +8,7 @@ use Rattle.text.specs.Strings.{bytes, partOf}
 use Rattle.text.specs.Lines.{lineOf}
 use Rattle.words.specs.Numbers.{withDigit, numberFrom, numberOf}
 use Rattle.words.specs.Pieces.{piecesOf}
-use Rattle.scenario.specs.Lines.{load, loadAt, begin, addLine, addPiece}
+use Rattle.scenario.specs.Lines.{load, loadAt, begin, addLine, addPiece, mostPositions}
 use Rattle.given.specs.declared.Given.{Given}
 use Rattle.given.specs.Keeping.{keptServices, Held, held, fitting, afterName, afterText, afterLine}
 use Rattle.given.specs.Lending.{positionOf, withPositions, lentPositions}
@@ -20,15 +20,15 @@ given n b t = record { begun = n; bytes = b; text = t }
 abbrev lined : String → List ℕ
 lined s = bytes s ++ 10 ∷ []
 
--- nothing was given; the buffer has room for six bytes
+-- nothing was given; the buffer has room for six bytes, and there are positions for two services
 abbrev none : Held
-none = held (given 0 0 0) (replicate 6 0) (replicate 74 0)
+none = held (given 0 0 0) (replicate 6 0) (replicate (mostPositions + 4) 0)
 
 -- "service ab", then "|c" and "!d"
 abbrev pub one : Held
 one = afterLine addPiece (lined "!d") (afterLine addLine (lined "|c") (afterLine begin (lined "service ab") none))
 
-pub one-holds : one ≡ held (given 1 5 3) (97 ∷ 98 ∷ 99 ∷ 10 ∷ 100 ∷ 0 ∷ []) (replicate 70 0 ++ 2 ∷ 5 ∷ 0 ∷ 0 ∷ [])
+pub one-holds : one ≡ held (given 1 5 3) (97 ∷ 98 ∷ 99 ∷ 10 ∷ 100 ∷ 0 ∷ []) (replicate mostPositions 0 ++ 2 ∷ 5 ∷ 0 ∷ 0 ∷ [])
 unfolding bytes lineOf fitting afterName afterText afterLine
 one-holds = refl
 
@@ -39,13 +39,14 @@ one-lent = refl
 
 pub two-lent :
     lentPositions
-    (withPositions (record { verb = loadAt; first = 9; last = 2 }) (bytes "load 9 2 5") (replicate 74 0))
+    (withPositions (record { verb = loadAt; first = 9; last = 2 }) (bytes "load 9 2 5") (replicate (mostPositions + 4) 0))
     (record { verb = loadAt; first = 9; last = 2 }) 1
     ≡ (2 ∷ 5 ∷ [])
 unfolding bytes partOf piecesOf withDigit numberFrom numberOf positionOf withPositions lentPositions
 two-lent = refl
 
 -- a service past those that are kept is only counted, and has no text
-pub past-holds : afterLine addLine (lined "|c") (afterLine begin (lined "service ab") (held (given keptServices 0 0) [] [])) ≡ held (given 34 0 0) [] []
+pub past-holds : afterLine addLine (lined "|c") (afterLine begin (lined "service ab") (held (given keptServices 0 0) [] []))
+    ≡ held (given (keptServices + 1) 0 0) [] []
 unfolding bytes lineOf fitting afterName afterText afterLine
 past-holds = refl

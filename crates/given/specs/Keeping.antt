@@ -7,19 +7,22 @@ use lib.Dec.{eqb, leb, ltb}
 use lib.ListN.{length, take, drop, set}
 use lib.Seq.{sets}
 use Rattle.base.specs.Folds.{pick}
+use Rattle.service.specs.Limits.{maxServices}
 use Rattle.text.specs.Lines.{lineOf}
+use Rattle.word.specs.Words.{longestName}
+use Rattle.lent.specs.Checks.{longestText}
 use Rattle.scenario.specs.Lines.{begin, addLine, addPiece, mostPositions}
 use Rattle.given.specs.declared.Given.{Given}
 
 -- one more than is allowed of each, so that a load sees what is too much
 abbrev pub keptServices : ℕ
-keptServices = 33
+keptServices = maxServices + 1
 
 abbrev pub keptName : ℕ
-keptName = 33
+keptName = longestName + 1
 
 abbrev pub keptText : ℕ
-keptText = 4097
+keptText = longestText + 1
 
 -- the room for all that is kept
 abbrev pub room : ℕ

@@ -1,4 +1,5 @@
 // The services that a scenario has given so far, as they are lent to a load: names and texts one after the other, and where each ends.
+use lent::MAX_TEXT;
 use scenario::ADD_LINE;
 use scenario::ADD_PIECE;
 use scenario::BEGIN;
@@ -6,9 +7,11 @@ use scenario::Command;
 use scenario::LOAD;
 use scenario::LOAD_AT;
 use scenario::MOST_POSITIONS;
+use service::MAX_SERVICES;
 use text::line_end;
 use text::part;
 use text::tail;
+use word::LONGEST_NAME;
 use words::number;
 use words::piece;
 ghost use mathlib.Core.Path.{_≡_};
@@ -17,21 +20,24 @@ ghost use lib.ListN.{length, take, set};
 ghost use Rattle.base.specs.Folds.{fold};
 ghost use Rattle.text.specs.Strings.{partOf};
 ghost use Rattle.text.specs.Lines.{lineOf};
+ghost use Rattle.scenario.specs.Lines.{mostPositions};
 ghost use Rattle.given.specs.Keeping.{Kept, held, afterName, afterText, afterLine};
 ghost use Rattle.given.specs.Lending.{least, positionOf, withPositions, ownEnd, lentPositions};
 
 // What is kept of the services, of a name and of a text: one more than is allowed, so that the load sees it.
-const KEPT_SERVICES: usize = 33;
+const KEPT_SERVICES: usize = MAX_SERVICES + 1;
 
-const KEPT_NAME: usize = 33;
+const KEPT_NAME: usize = LONGEST_NAME + 1;
 
-const KEPT_TEXT: usize = 4097;
+const KEPT_TEXT: usize = MAX_TEXT + 1;
 
 // The room for all names and texts that are kept.
-const ROOM: usize = 136290;
+pub const ROOM: usize = KEPT_SERVICES * (KEPT_NAME + KEPT_TEXT);
 
 // The positions that a load is given, and from MOST_POSITIONS on those of the services given so far.
-pub type Positions = [usize; 136];
+pub const POSITIONS: usize = MOST_POSITIONS + 2 * KEPT_SERVICES;
+
+pub type Positions = [usize; POSITIONS];
 
 // Names and texts, as far as they are kept.
 pub type Buffer = [u8; ROOM];
@@ -163,7 +169,7 @@ fn least_of(a: usize, b: usize) -> usize
 
 // Puts the positions that a line gives, which are its words from the third on, to the front.
 fn read_positions(line: &[u8], count: usize, positions: &mut Positions)
-    requires { ⌜ count ≤ 70 ⌝ }
+    requires { ⌜ count ≤ mostPositions ⌝ }
     ensures { λ _. ⌜ now (positions .exit)
         ≡ fold (λ m i. set m i (positionOf (now (line .entry)) i)) (now (positions .entry)) count ⌝ }
 {

@@ -12,11 +12,8 @@ use Rattle.base.specs.Folds.{pick}
 use Rattle.base.specs.Sets.{single}
 use Rattle.base.proofs.Counting.{one-left}
 use Rattle.service.specs.Limits.{maxServices}
-use Rattle.service.specs.Numbers.{signalAt}
 use Rattle.service.specs.Settings.{defaultSettings}
-use Rattle.service.specs.declared.Kind.the-variants.{Internal}
 use Rattle.service.specs.declared.Settings.{Settings}
-use Rattle.service.specs.declared.Signal.the-variants.{Kill}
 use Rattle.text.specs.Lines.{fault}
 use Rattle.text.specs.declared.Fault.{Fault}
 use Rattle.text.specs.declared.Verdict.the-variants.{Bad as Bad, Good as Good}
@@ -26,7 +23,7 @@ use Rattle.description.specs.declared.Dependency.{Dependency as Named}
 use Rattle.description.specs.declared.Description.{Description}
 use Rattle.lent.specs.Checks.{find}
 use Rattle.lent.specs.declared.Answer.the-variants.{Accepted, Refused}
-use Rattle.linking.specs.Links.{kindAt, linksFrom, noLinks, tooMany, servicesFrom, servicesIn, servicesOn, settingsOf, withLink}
+use Rattle.linking.specs.Links.{linksFrom, noLinks, tooMany, servicesFrom, servicesIn, servicesOn, settingsOf, withLink}
 use Rattle.linking.specs.declared.Linked.{Linked}
 use Rattle.linking.specs.declared.Links.{Links}
 use Rattle.linking.specs.declared.Services.{Services}
@@ -34,23 +31,6 @@ use Rattle.linking.specs.declared.Services.{Services}
 -- past the places of a description there is no dependency
 pub dependency-past : (d : Description) (k : ℕ) → length (d .dependencies) ≡ maxDependencies → maxDependencies ≤ k → dependencyAt d k ≡ noDependency
 dependency-past d k e h = List·getD-eq-default (d .dependencies) noDependency (rw e h)
-
--- a type that is neither 1 nor 2, and a signal at none of the places before the last
-pub kind-other : (k : ℕ) → (k ≡ 1 → ⊥) → (k ≡ 2 → ⊥) → kindAt k ≡ Internal
-kind-other zero f g = refl
-kind-other (suc zero) f g = absurd (f refl)
-kind-other (suc (suc zero)) f g = absurd (g refl)
-kind-other (suc (suc (suc k))) f g = refl
-
-pub signal-other : (g : ℕ) → (g ≡ 0 → ⊥) → (g ≡ 1 → ⊥) → (g ≡ 2 → ⊥) → (g ≡ 3 → ⊥) → (g ≡ 4 → ⊥) → (g ≡ 5 → ⊥) → (g ≡ 6 → ⊥) → signalAt g ≡ Kill
-signal-other zero a b c d e f h = absurd (a refl)
-signal-other (suc zero) a b c d e f h = absurd (b refl)
-signal-other (suc (suc zero)) a b c d e f h = absurd (c refl)
-signal-other (suc (suc (suc zero))) a b c d e f h = absurd (d refl)
-signal-other (suc (suc (suc (suc zero)))) a b c d e f h = absurd (e refl)
-signal-other (suc (suc (suc (suc (suc zero))))) a b c d e f h = absurd (f refl)
-signal-other (suc (suc (suc (suc (suc (suc zero)))))) a b c d e f h = absurd (h refl)
-signal-other (suc (suc (suc (suc (suc (suc (suc n))))))) a b c d e f h = refl
 
 pub one-link : (i : ℕ) (m : ℕ) → i < 64 → m ≡ single i (ltb i 64 && true) → m ≡ 2 ^ i
 one-link i m l e = e ∙ rw (lt-ltb i 64 l)

@@ -12,12 +12,11 @@ use Rattle.base.specs.Sets.{hasBit}
 use Rattle.service.specs.Limits.{maxServices}
 use Rattle.service.specs.Numbers.{signalAt}
 use Rattle.service.specs.Settings.{defaultSettings, linksOf, noSettings}
-use Rattle.service.specs.declared.Kind.{Kind}
-use Rattle.service.specs.declared.Kind.the-variants.{Internal, Process, Scripted}
 use Rattle.service.specs.declared.Settings.{Settings}
 use Rattle.text.specs.Lines.{fault}
 use Rattle.text.specs.declared.Verdict.{Verdict}
 use Rattle.text.specs.declared.Verdict.the-variants.{Bad as Bad, Good as Good}
+use Rattle.word.specs.Words.{kindFrom}
 use Rattle.description.specs.Settings.{dependencyAt, descriptionAt, valueOf, wordAt}
 use Rattle.description.specs.declared.Description.{Description}
 use Rattle.lent.specs.Checks.{find}
@@ -46,16 +45,10 @@ linksFrom name n text d l k (suc m) =
     pick (ltb i n) (linksFrom name n text d (withLink l (dependencyAt d k .property) i) (k + 1) m)
     (record { answer = Bad (fault 15 (dependencyAt d k .at)); links = l })
 
-abbrev pub kindAt : ℕ → Kind
-kindAt zero = Internal
-kindAt (suc zero) = Process
-kindAt (suc (suc zero)) = Scripted
-kindAt (suc (suc (suc k))) = Internal
-
 -- the settings of a service, by property number
 abbrev pub settingsOf : Description → Links → Settings
 settingsOf d l = record {
-  kind = kindAt (valueOf d 0);
+  kind = kindFrom (valueOf d 0);
   restart = eqb (valueOf d 3) 1;
   «has_stop» = not (eqb (valueOf d 2) 0);
   signal = signalAt (valueOf d 13);

@@ -11,15 +11,15 @@ use lent::refused_in;
 use lent::text_at;
 use reach::has_cycle;
 use reach::reach_of;
-use service::Kind;
 use service::MAX_SERVICES;
 use service::Settings;
-use service::Signal;
 use service::all_links;
+use service::signal_at;
 use text::Fault;
 use text::Verdict;
 use text::part;
 use value::WORD_ROOM;
+use word::kind_from;
 ghost use mathlib.Core.Path.{_≡_};
 ghost use Prim.Native.Nat.{_≤_, _<_};
 ghost use lib.Dec.{leb};
@@ -29,12 +29,11 @@ ghost use Rattle.base.specs.Links.{reach};
 ghost use Rattle.reach.specs.Rows.{rowsAs};
 ghost use Rattle.base.proofs.Filled.{Filled};
 ghost use Rattle.service.specs.Limits.{maxServices};
-ghost use Rattle.service.specs.Numbers.{signalAt};
 ghost use Rattle.description.specs.Settings.{wordAt, dependencyAt};
 ghost use Rattle.lent.specs.Parts.{nameAt, textAt};
 ghost use Rattle.lent.specs.Checks.{find};
 ghost use Rattle.lent.specs.declared.Answer.the-variants.{Accepted};
-ghost use Rattle.linking.specs.Links.{noLinks, withLink, linksFrom, kindAt, settingsOf, servicesFrom, servicesOn, servicesIn, linksAt, lowestCyclic};
+ghost use Rattle.linking.specs.Links.{noLinks, withLink, linksFrom, settingsOf, servicesFrom, servicesOn, servicesIn, linksAt, lowestCyclic};
 
 // The services that a service depends on, as sets: by depends-on, by depends-ms and by waits-for.
 pub struct Links {
@@ -137,41 +136,12 @@ fn resolve(lent: &[u8], ends: &[usize], n: usize, text: &[u8], d: Description) -
     }
 }
 
-// A type by its number: process 1, scripted 2.
-fn kind_of(k: u64) -> Kind
-    ensures { λ r. ⌜ r ≡ kindAt k ⌝ }
-{
-    if k == 1 {
-        return Kind::Process;
-    }
-    if k == 2 {
-        return Kind::Scripted;
-    }
-    Kind::Internal
-}
-
-// A signal by its place in paper 01's list.
-fn signal_of(g: u64) -> Signal
-    ensures { λ r. ⌜ r ≡ signalAt g ⌝ }
-{
-    match g {
-        0 => Signal::None,
-        1 => Signal::Hup,
-        2 => Signal::Int,
-        3 => Signal::Term,
-        4 => Signal::Quit,
-        5 => Signal::Usr1,
-        6 => Signal::Usr2,
-        _ => Signal::Kill,
-    }
-}
-
 // The settings of a service, by property number.
 fn settings_of(d: Description, l: Links) -> Settings
     ensures { λ r. ⌜ r ≡ settingsOf d l ⌝ }
 {
-    let kind = kind_of(d.values[0]);
-    let signal = signal_of(d.values[13]);
+    let kind = kind_from(d.values[0]);
+    let signal = signal_at(d.values[13]);
     let stop = d.values[2];
     let restart = d.values[3];
     Settings {

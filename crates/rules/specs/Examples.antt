@@ -1,7 +1,6 @@
 -- Further cases computed over the definitions, in one table with one statement: the lone reader's falls, what a user's stop does to
 -- those above, the refusals in the order of checks, the query; and a run with its lent places.
 use Prim.Native.Nat.{ℕ}
-use lib.ListN.{replicate}
 use mathlib.Core.Bool.{false, true}
 use mathlib.Core.List.{List, [], _++_, _∷_}
 use mathlib.Core.Path.{_≡_, refl}
@@ -9,7 +8,7 @@ use Rattle.base.specs.Folds.{every, first, some}
 use Rattle.base.specs.Links.{cyclic, reach}
 use Rattle.base.specs.Sets.{hasBit, within}
 use Rattle.service.specs.Records.{freshState, recordAt, withRecord}
-use Rattle.service.specs.Settings.{defaultSettings, process, settingsAt}
+use Rattle.service.specs.Settings.{process, settingsAt}
 use Rattle.service.specs.declared.Action.the-variants.{Launch, Moved, Quiet, Signal}
 use Rattle.service.specs.declared.Deadline.the-variants.{At, None as NoDeadline}
 use Rattle.service.specs.declared.Signal.the-variants.{Term}
@@ -22,7 +21,7 @@ use Rattle.rules.specs.Readings.{lone, scripts}
 use Rattle.rules.specs.Rules.{act, actOn, chosen, chosenFrom, due, fits, hands, leaves, lostToUser, nextAction}
 use Rattle.rules.specs.Runs.{actionAfter, earliest, stateAfter, stepsToQuiet, written, writtenActions, writtenServices}
 use Rattle.rules.specs.WellFormed.{formed, shapedAt, stateFormed, tableFormed}
-use Rattle.rules.specs.Worked.{AllGiven, Played, answers, pair, played}
+use Rattle.rules.specs.Worked.{AllGiven, Played, answers, pair, played, tableOf}
 
 -- ---- "A lone wanted reader, restart yes, launched at 0 and falling at 10,000, 20,000, 30,000 is launched again"
 
@@ -60,7 +59,7 @@ stopSpreads =
     ∷ done ∷ done ∷ acted (Signal 0 Term) ∷ done ∷ acted Quiet ∷ [])
 
 abbrev chain : Table
-chain = record { count = 3; services = process 0 ∷ process 1 ∷ process 2 ∷ replicate 29 defaultSettings }
+chain = tableOf (process 0 ∷ process 1 ∷ process 2 ∷ [])
 
 -- 1 was wanted, and a user's stop below it has ended that: started later for 2 alone, it is released when 2 is stopped
 abbrev stopUnwants : Played
@@ -76,7 +75,7 @@ stopUnwants =
 
 -- a table with a dependency past its last service
 abbrev illFormed : Table
-illFormed = record { count = 1; services = process 2 ∷ replicate 31 defaultSettings }
+illFormed = tableOf (process 2 ∷ [])
 
 abbrev eight : List ℕ
 eight = 7 ∷ 7 ∷ 7 ∷ 7 ∷ 7 ∷ 7 ∷ 7 ∷ 7 ∷ []

@@ -1,6 +1,5 @@
 -- "Readings that look right and are wrong": for each a case that the wrong reading fails. One table, one statement.
 use Prim.Native.Nat.{ℕ}
-use lib.ListN.{replicate}
 use mathlib.Core.Bool.{false, true}
 use mathlib.Core.List.{List, [], _∷_}
 use mathlib.Core.Path.{refl}
@@ -8,7 +7,7 @@ use Rattle.base.specs.Folds.{every, first, some}
 use Rattle.base.specs.Links.{cyclic, reach}
 use Rattle.base.specs.Sets.{hasBit, within}
 use Rattle.service.specs.Records.{freshState, recordAt, withRecord}
-use Rattle.service.specs.Settings.{defaultSettings, process, settingsAt}
+use Rattle.service.specs.Settings.{process, settingsAt}
 use Rattle.service.specs.declared.Action.the-variants.{Launch, Moved, Quiet, Signal}
 use Rattle.service.specs.declared.Kind.the-variants.{Scripted}
 use Rattle.service.specs.declared.Settings.{Settings}
@@ -19,7 +18,7 @@ use Rattle.rules.specs.Dependencies.{allLinks, blocked, depends, hard, h
 use Rattle.rules.specs.Events.{afterClock, afterEnd, afterStart, afterStop, afterStopAll, each, endedAs, startReaches}
 use Rattle.rules.specs.Rules.{act, actOn, chosen, chosenFrom, due, fits, hands, leaves, lostToUser, nextAction}
 use Rattle.rules.specs.WellFormed.{formed, shapedAt, stateFormed, tableFormed}
-use Rattle.rules.specs.Worked.{AllGiven, Played, answers, pair, played}
+use Rattle.rules.specs.Worked.{AllGiven, Played, answers, pair, played, tableOf}
 
 -- a scripted service that has ten units to start
 abbrev script : ℕ → Settings
@@ -39,14 +38,14 @@ script h = record {
 }
 
 abbrev pub scripts : Table
-scripts = record { count = 2; services = script 0 ∷ script 1 ∷ replicate 30 defaultSettings }
+scripts = tableOf (script 0 ∷ script 1 ∷ [])
 
 -- a reader, and two averagers on it
 abbrev pub three : Table
-three = record { count = 3; services = process 0 ∷ process 1 ∷ process 1 ∷ replicate 29 defaultSettings }
+three = tableOf (process 0 ∷ process 1 ∷ process 1 ∷ [])
 
 abbrev pub lone : Table
-lone = record { count = 1; services = process 0 ∷ replicate 31 defaultSettings }
+lone = tableOf (process 0 ∷ [])
 
 -- "Launching the reader again while the averager lives": it is not launched before the averager has ended
 abbrev readerWaits : Played

@@ -1,12 +1,15 @@
 -- "Reader and averager, on both sides": the pair, with the calls and answers that paper 01 marks P. The statement over all that is so
 -- marked, times and values too, stands in the crate `guarantee`.
-use lib.ListN.{replicate}
+use Prim.Native.Nat.{_-_}
+use lib.ListN.{length, replicate}
 use mathlib.Core.Bool.{false, true}
-use mathlib.Core.List.{List, [], _∷_}
+use mathlib.Core.List.{List, [], _∷_, _++_}
 use mathlib.Core.Path.{_≡_}
+use Rattle.service.specs.Limits.{maxServices}
 use Rattle.service.specs.Records.{freshState}
 use Rattle.service.specs.Settings.{defaultSettings, process}
 use Rattle.service.specs.declared.Action.the-variants.{Launch, Moved, Quiet, Signal}
+use Rattle.service.specs.declared.Settings.{Settings}
 use Rattle.service.specs.declared.Signal.the-variants.{Term}
 use Rattle.service.specs.declared.State.{State}
 use Rattle.service.specs.declared.Table.{Table}
@@ -30,9 +33,13 @@ abbrev pub AllGiven : List Played → Type 0
 AllGiven [] = Unit {0}
 AllGiven (p ∷ ps) = (answers (p .table) freshState (p .calls) ≡ p .given) × AllGiven ps
 
+-- the table of these services: the places past them have default settings
+abbrev pub tableOf : List Settings → Table
+tableOf vs = record { count = length vs; services = vs ++ replicate (maxServices - length vs) defaultSettings }
+
 -- "0 reader, process; 1 averager, process, hard on 0; both restart"
 abbrev pub pair : Table
-pair = record { count = 2; services = process 0 ∷ process 1 ∷ replicate 30 defaultSettings }
+pair = tableOf (process 0 ∷ process 1 ∷ [])
 
 -- "Start 1: moved 1, moved 0, launch 0, launch 1, quiet. Clock 50,000, end of 0: moved 1, TERM 1, quiet. End of 1: moved 0,
 -- moved 1, moved 0, launch 0, launch 1, quiet."

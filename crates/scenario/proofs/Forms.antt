@@ -7,16 +7,23 @@ use lib.Dec.{eqb}
 use lib.ListN.{getD, drop}
 use Rattle.base.specs.Folds.{pick}
 use Rattle.base.proofs.Loops.{Passed, passed-more, passed-hit, passed-all}
+use Rattle.service.specs.Limits.{maxServices}
+use Rattle.text.specs.Strings.{bytes, same}
 use Rattle.words.specs.declared.Read.{Read}
 use Rattle.words.specs.Numbers.{numberOf, numberTo}
 use Rattle.words.specs.Pieces.{piecesOf, pieceOf, placeOf}
 use Rattle.scenario.specs.Forms.{formCount, wordOf, wordCount, mostOf, valueOf, valueAt, beginsAs, fitsForm, formOf, readForm}
 
--- the word of a form is # and what follows it
-pub most-read : (f : List ℕ) {t : List ℕ} {r : Read} {b : Bool} → t ≡ drop 1 f → r ≡ numberOf t → r .good ≡ b
-    → pick b (r .value) 18446744073709551615 ≡ mostOf f
-unfolding mostOf
-most-read f p q g = rw (← p, ← q, g)
+-- the word of a form is that of a service, or # and what follows it
+module _ (f : List ℕ) {s : Bool} (named : s ≡ same f (bytes "#service")) where
+  pub most-service : s ≡ true → maxServices - 1 ≡ mostOf f
+  unfolding mostOf
+  most-service e = rw (← named, e)
+
+  pub most-read : {t : List ℕ} {r : Read} {b : Bool} → s ≡ false → t ≡ drop 1 f → r ≡ numberOf t → r .good ≡ b
+      → pick b (r .value) 18446744073709551615 ≡ mostOf f
+  unfolding mostOf
+  most-read e p q g = rw (← named, e, ← p, ← q, g)
 
 -- a word of a form that is a number, or choices
 module _ (f w : List ℕ) {b : ℕ} {r : Read} (first : b ≡ getD f 0 0) where

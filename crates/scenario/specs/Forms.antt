@@ -5,14 +5,15 @@ use mathlib.Core.List.{List, [], _∷_, map}
 use lib.Dec.{eqb}
 use lib.ListN.{getD, drop}
 use Rattle.base.specs.Folds.{pick, every, first}
-use Rattle.text.specs.Strings.{bytes}
+use Rattle.service.specs.Limits.{maxServices}
+use Rattle.text.specs.Strings.{bytes, same}
 use Rattle.words.specs.declared.Read.{Read}
 use Rattle.words.specs.Numbers.{numberOf, numberTo}
 use Rattle.words.specs.Pieces.{pieceOf, pieceCount, placeOf}
 use Rattle.scenario.specs.declared.Command.{Command}
 
--- A form gives the words of a line: # stands for a number, #31 for one up to 31, and | parts the words of which a line has
--- one. The place of a form, from 0, is the verb of the lines that fit it.
+-- A form gives the words of a line: # stands for a number, #256 for one up to 256, #service for one that a service may have, and | parts the
+-- words of which a line has one. The place of a form, from 0, is the verb of the lines that fit it.
 unfoldable pub forms : List (List ℕ)
 unfolding bytes
 forms = map bytes (
@@ -28,27 +29,27 @@ forms = map bytes (
     "state" ∷
     "show" ∷
     "set clock #" ∷
-    "set #31 phase down|waiting|starting|up|ending" ∷
-    "set #31 wanted 0|1" ∷
-    "set #31 aside 0|1" ∷
-    "set #31 live 0|1" ∷
-    "set #31 cause none|user|released|fell|failed" ∷
-    "set #31 deadline none" ∷
-    "set #31 deadline #" ∷
-    "set #31 killed 0|1" ∷
-    "set #31 not-before #" ∷
-    "set #31 last-launch #" ∷
-    "set #31 window-start #" ∷
-    "set #31 restarts #" ∷
+    "set #service phase down|waiting|starting|up|ending" ∷
+    "set #service wanted 0|1" ∷
+    "set #service aside 0|1" ∷
+    "set #service live 0|1" ∷
+    "set #service cause none|user|released|fell|failed" ∷
+    "set #service deadline none" ∷
+    "set #service deadline #" ∷
+    "set #service killed 0|1" ∷
+    "set #service not-before #" ∷
+    "set #service last-launch #" ∷
+    "set #service window-start #" ∷
+    "set #service restarts #" ∷
     "table count #" ∷
-    "table #31 restart-delay #" ∷
-    "table #31 restart-limit-interval #" ∷
-    "table #31 restart-limit-count #" ∷
-    "table #31 start-timeout #" ∷
-    "table #31 stop-timeout #" ∷
-    "table #31 depends-on #" ∷
-    "table #31 depends-ms #" ∷
-    "table #31 waits-for #" ∷
+    "table #service restart-delay #" ∷
+    "table #service restart-limit-interval #" ∷
+    "table #service restart-limit-count #" ∷
+    "table #service start-timeout #" ∷
+    "table #service stop-timeout #" ∷
+    "table #service depends-on #" ∷
+    "table #service depends-ms #" ∷
+    "table #service waits-for #" ∷
     "load #65536" ∷
     "load #65536 -" ∷
     [])
@@ -66,7 +67,10 @@ wordCount l = pieceCount l 32
 
 -- the most that a number may be where a form has the word f
 unfoldable pub mostOf : List ℕ → ℕ
-mostOf f = pick (numberOf (drop 1 f) .good) (numberOf (drop 1 f) .value) 18446744073709551615
+unfolding bytes
+mostOf f =
+    pick (same f (bytes "#service")) (maxServices - 1)
+    (pick (numberOf (drop 1 f) .good) (numberOf (drop 1 f) .value) 18446744073709551615)
 
 -- the number that the word w is where a form has the word f: a number, or its place among the choices
 unfoldable pub valueOf : List ℕ → List ℕ → Read

@@ -1,36 +1,56 @@
 -- A line of a scenario, read to what it asks for.
-use Prim.Native.Nat.{ℕ, _+_, _-_}
+use Prim.Native.Nat.{ℕ, _+_, _-_, _*_}
 use mathlib.Core.Bool.{Bool, true, _&&_, _||_}
 use mathlib.Core.List.{List, []}
 use lib.Dec.{eqb, leb, ltb}
 use lib.ListN.{length, getD}
 use Rattle.base.specs.Folds.{pick, every}
+use Rattle.service.specs.Limits.{maxServices}
 use Rattle.text.specs.Strings.{bytes, same}
 use Rattle.words.specs.Numbers.{numberOf}
 use Rattle.scenario.specs.declared.Command.{Command}
 use Rattle.scenario.specs.Forms.{forms, formCount, wordOf, wordCount, valueAt, beginsAs, formOf, readForm}
 
--- the verbs: the place of the form of a load, and those of what fits no form
+-- the verbs: the places of the forms that set a number of the state or the table, and of that of a load
+abbrev pub setClock : ℕ
+setClock = 11
+
+abbrev pub setRecord : ℕ
+setRecord = 12
+
+abbrev pub setRecordLast : ℕ
+setRecordLast = 23
+
+abbrev pub setCount : ℕ
+setCount = 24
+
+abbrev pub setTable : ℕ
+setTable = 25
+
+abbrev pub setTableLast : ℕ
+setTableLast = 32
+
 abbrev pub load : ℕ
 load = 33
 
+-- and those of what fits no form
 abbrev pub badVerb : ℕ
 badVerb = formCount
 
 abbrev pub loadAt : ℕ
-loadAt = 36
+loadAt = badVerb + 1
 
 abbrev pub nothing : ℕ
-nothing = 37
+nothing = badVerb + 2
 
 abbrev pub begin : ℕ
-begin = 38
+begin = badVerb + 3
 
 abbrev pub addLine : ℕ
-addLine = 39
+addLine = badVerb + 4
 
 abbrev pub addPiece : ℕ
-addPiece = 40
+addPiece = badVerb + 5
 
 -- a verb with no numbers
 abbrev pub plain : ℕ → Command
@@ -39,9 +59,9 @@ plain v = record { verb = v; first = 0; last = 0 }
 abbrev pub bad : Command
 bad = plain badVerb
 
--- "1 to 70 numbers"
+-- "1 to 70 numbers": two for each service, and of three services more than a set may have
 abbrev pub mostPositions : ℕ
-mostPositions = 70
+mostPositions = 2 * (maxServices + 3)
 
 -- the n words from the third on are numbers
 unfoldable pub areNumbers : List ℕ → ℕ → Bool

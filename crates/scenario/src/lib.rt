@@ -1,5 +1,6 @@
 // A line of a scenario, read to what it asks for. A line is held to forms in turn, word by word; some lines are told by
 // their first byte or word, and a load with positions has a form of its own.
+use service::MAX_SERVICES;
 use text::byte_at;
 use text::same_bytes;
 use text::tail;
@@ -13,7 +14,7 @@ ghost use mathlib.Core.Path.{_≡_};
 ghost use Prim.Native.Nat.{_≤_};
 ghost use Rattle.words.specs.Pieces.{piecesOf};
 ghost use Rattle.scenario.specs.Forms.{mostOf, valueOf, valueAt, beginsAs, fitsForm, formOf, readForm};
-ghost use Rattle.scenario.specs.Lines.{bad, areNumbers, readLoad, readParted, openingOf, readAny, hasNeeded, readAfter, commandOf};
+ghost use Rattle.scenario.specs.Lines.{bad, mostPositions, areNumbers, readLoad, readParted, openingOf, readAny, hasNeeded, readAfter, commandOf};
 
 // What a line asks for: the place of its form, or one of the numbers after it; and the numbers of its second word and of
 // its last. A load with positions has its room and how many they are. What is not there is 0, and all of a bad line is.
@@ -75,11 +76,12 @@ pub const ADD_LINE: usize = 39;
 
 pub const ADD_PIECE: usize = 40;
 
-// The most positions that a load may be given.
-pub const MOST_POSITIONS: usize = 70;
+// The most positions that a load may be given: two for each service, and of three services more than a set may have.
+pub const MOST_POSITIONS: usize = 2 * (MAX_SERVICES + 3);
 
-// The forms, one on a line: # stands for a number, #31 for one up to 31, and | parts the words of which a line has one.
-const FORMS: [u8; 640] = *b"next
+// The forms, one on a line: # stands for a number, #256 for one up to 256, #service for one that a service may have, and | parts the words of
+// which a line has one.
+const FORMS: [u8; 740] = *b"next
 run
 run #256 #256
 start #
@@ -91,27 +93,27 @@ query
 state
 show
 set clock #
-set #31 phase down|waiting|starting|up|ending
-set #31 wanted 0|1
-set #31 aside 0|1
-set #31 live 0|1
-set #31 cause none|user|released|fell|failed
-set #31 deadline none
-set #31 deadline #
-set #31 killed 0|1
-set #31 not-before #
-set #31 last-launch #
-set #31 window-start #
-set #31 restarts #
+set #service phase down|waiting|starting|up|ending
+set #service wanted 0|1
+set #service aside 0|1
+set #service live 0|1
+set #service cause none|user|released|fell|failed
+set #service deadline none
+set #service deadline #
+set #service killed 0|1
+set #service not-before #
+set #service last-launch #
+set #service window-start #
+set #service restarts #
 table count #
-table #31 restart-delay #
-table #31 restart-limit-interval #
-table #31 restart-limit-count #
-table #31 start-timeout #
-table #31 stop-timeout #
-table #31 depends-on #
-table #31 depends-ms #
-table #31 waits-for #
+table #service restart-delay #
+table #service restart-limit-interval #
+table #service restart-limit-count #
+table #service start-timeout #
+table #service stop-timeout #
+table #service depends-on #
+table #service depends-ms #
+table #service waits-for #
 load #65536
 load #65536 -";
 
@@ -119,6 +121,9 @@ load #65536 -";
 fn most(form: &[u8]) -> u64
     ensures { λ r. ⌜ r ≡ mostOf (now (form .entry)) ⌝ }
 {
+    if same_bytes(form, b"#service") {
+        return MAX_SERVICES as u64 - 1;
+    }
     let read = number(tail(form, 1));
     let value = read.value;
     if read.good {
@@ -214,7 +219,7 @@ fn bad_line() -> Command
 
 // The positions of a load, its words from the third on, are numbers.
 fn are_numbers(line: &[u8], count: usize) -> bool
-    requires { ⌜ count ≤ 70 ⌝ }
+    requires { ⌜ count ≤ mostPositions ⌝ }
     ensures { λ r. ⌜ r ≡ areNumbers (now (line .entry)) count ⌝ }
 {
     let mut i: usize = 0;

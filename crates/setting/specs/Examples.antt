@@ -1,28 +1,43 @@
 -- Numbers computed after lines that set one.
+use Prim.Native.Nat.{ℕ, _+_}
+use mathlib.Core.List.{List}
 use mathlib.Core.Path.{_≡_, refl}
 use lib.ListN.{getD, replicate, set}
-use Rattle.setting.specs.Setting.{numberSet, timedSet, stateAfter, tableAfter}
+use Rattle.encoding.specs.Numbers.{allNumbers, placeOf}
+use Rattle.scenario.specs.Lines.{setRecord, setTable}
+use Rattle.setting.specs.Setting.{deadlineSet, numberSet, stateAfter, tableAfter, timePlace, timedPlace}
 
--- "set 1 deadline 700": service 1's numbers begin at 13
-pub deadline-set : stateAfter (replicate 20 0) 18 1 700 ≡ set (set (replicate 20 0) 18 1) 19 700
-unfolding numberSet timedSet stateAfter
+-- a state and a table of nothing but this number
+abbrev full : ℕ → List ℕ
+full n = replicate allNumbers n
+
+-- the lines "set # deadline none" and "set # deadline #"
+abbrev setNone : ℕ
+setNone = setRecord + 5
+
+abbrev setDeadline : ℕ
+setDeadline = setRecord + 6
+
+-- "set 1 deadline 700"
+pub deadline-set : stateAfter (full 0) setDeadline 1 700 ≡ set (set (full 0) (placeOf 1 + timedPlace) 1) (placeOf 1 + timePlace) 700
+unfolding numberSet deadlineSet stateAfter
 deadline-set = refl
 
 -- "set 1 deadline none"
-pub deadline-none : stateAfter (replicate 20 9) 17 1 0 ≡ set (replicate 20 9) 18 0
-unfolding numberSet timedSet stateAfter
+pub deadline-none : stateAfter (full 9) setNone 1 0 ≡ set (set (full 9) (placeOf 1 + timePlace) 0) (placeOf 1 + timedPlace) 0
+unfolding numberSet deadlineSet stateAfter
 deadline-none = refl
 
--- "table 0 stop-timeout 3" and "table 0 depends-on 3", before and after the signal at place 8
-pub timeout-set : tableAfter (replicate 13 0) 29 0 3 ≡ set (replicate 13 0) 7 3
+-- "table 0 stop-timeout 3" and "table 0 depends-on 3", before and after the signal, which is a service's eighth number
+pub timeout-set : tableAfter (full 0) (setTable + 4) 0 3 ≡ set (full 0) (placeOf 0 + 6) 3
 unfolding numberSet tableAfter
 timeout-set = refl
 
-pub depends-set : tableAfter (replicate 13 0) 30 0 3 ≡ set (replicate 13 0) 9 3
+pub depends-set : tableAfter (full 0) (setTable + 5) 0 3 ≡ set (full 0) (placeOf 0 + 8) 3
 unfolding numberSet tableAfter
 depends-set = refl
 
 -- a line that sets a number of the state leaves the table as it is
-pub table-left : tableAfter (replicate 13 0) 18 0 700 ≡ replicate 13 0
+pub table-left : tableAfter (full 0) setDeadline 0 700 ≡ full 0
 unfolding tableAfter
 table-left = refl

@@ -1,6 +1,8 @@
 // The lines of a scenario that set a number of the table or the state.
 use encoding::EACH;
+use encoding::FRONT;
 use encoding::Numbers;
+use encoding::USED;
 use scenario::Command;
 use scenario::SET_CLOCK;
 use scenario::SET_COUNT;
@@ -10,9 +12,10 @@ use scenario::SET_TABLE;
 use scenario::SET_TABLE_LAST;
 use service::MAX_SERVICES;
 ghost use mathlib.Core.Path.{_≡_};
-ghost use Prim.Native.Nat.{_<_};
+ghost use Prim.Native.Nat.{_-_, _≤_};
 ghost use lib.ListN.{set as with};
-ghost use Rattle.setting.specs.Setting.{numberSet, timedSet, recordSet, settingPlace, stateAfter, tableAfter};
+ghost use Rattle.scenario.specs.Lines.{setTable, setTableLast};
+ghost use Rattle.setting.specs.Setting.{numberSet, deadlineSet, recordSet, settingPlace, stateAfter, tableAfter};
 
 // The places of a deadline's two numbers among those of a record: whether there is one, and its time.
 const TIMED: usize = 5;
@@ -32,32 +35,36 @@ fn set_number(numbers: &mut Numbers, s: u64, place: usize, n: u64)
     ensures { λ _. ⌜ now (numbers .exit) ≡ numberSet (now (numbers .entry)) s place n ⌝ }
 {
     if s < MAX_SERVICES as u64 {
-        if place < EACH {
-            numbers[1 + EACH * s as usize + place] = n;
+        if place < USED {
+            numbers[FRONT + EACH * s as usize + place] = n;
         }
     }
 }
 
-// Sets that there is a deadline, where the place is that of its time.
-fn set_timed(state: &mut Numbers, s: u64, place: usize)
-    ensures { λ _. ⌜ now (state .exit) ≡ timedSet (now (state .entry)) s place ⌝ }
+// Sets what goes with one of a deadline's two numbers: with a time that there is a deadline, and with none the time 0.
+fn set_deadline(state: &mut Numbers, s: u64, place: usize)
+    ensures { λ _. ⌜ now (state .exit) ≡ deadlineSet (now (state .entry)) s place ⌝ }
 {
     if place == TIME {
         set_number(state, s, TIMED, 1);
+    } else {
+        if place == TIMED {
+            set_number(state, s, TIME, 0);
+        }
     }
 }
 
-// Sets a number of a record. To set a deadline's time is to have one.
+// Sets a number of a record.
 fn set_record(state: &mut Numbers, s: u64, place: usize, n: u64)
     ensures { λ _. ⌜ now (state .exit) ≡ recordSet (now (state .entry)) s place n ⌝ }
 {
-    set_timed(state, s, place);
+    set_deadline(state, s, place);
     set_number(state, s, place, n);
 }
 
 // The place of a number of a table among a service's, by that of its line among the lines that set one.
 fn setting_place(line: usize) -> usize
-    requires { ⌜ line < 8 ⌝ }
+    requires { ⌜ line ≤ setTableLast - setTable ⌝ }
     ensures { λ r. ⌜ r ≡ settingPlace line ⌝ }
 {
     if line < BEFORE_SIGNAL {

@@ -4,8 +4,10 @@ use mathlib.Core.Bool.{Bool, true, _&&_}
 use mathlib.Core.List.{List}
 use Prim.Native.Nat.{ℕ, _+_, _≤_, _<_}
 use lib.ListN.{length, getD, drop, drop-of-length-le}
-use borrow.Author.Tests.{lt-ltb, le-ltb}
+use native.Mathlib.Omega.{arith}
+use borrow.Author.Tests.{le-leb, lt-leb}
 use Rattle.base.proofs.Counting.{drop-more}
+use Rattle.service.specs.Numbers.{lastSignal}
 use Rattle.text.specs.Strings.{bytes, indexFrom, same}
 use Rattle.text.specs.Bytes.{isNameByte}
 use Rattle.word.specs.Words.{nameBytes, noOf, signalNames, signalOf}
@@ -21,13 +23,13 @@ module _ (s : List ℕ) (k : ℕ) where
   bytes-next h e = rw (drop-more s k 0 h, e)
 
 -- a signal by the place that was found
-pub signal-found : (w : List ℕ) {k : ℕ} → indexFrom w 0 signalNames ≡ k → k < 8 → signalOf w ≡ Value k
+pub signal-found : (w : List ℕ) {k : ℕ} → indexFrom w 0 signalNames ≡ k → k < lastSignal + 1 → signalOf w ≡ Value k
 unfolding signalOf
-signal-found w {k} e h = rw (e, lt-ltb k 8 h)
+signal-found w {k} e h = rw (e, le-leb k lastSignal (omega arith))
 
-pub signal-none : (w : List ℕ) {k : ℕ} → indexFrom w 0 signalNames ≡ k → 8 ≤ k → signalOf w ≡ Bad
+pub signal-none : (w : List ℕ) {k : ℕ} → indexFrom w 0 signalNames ≡ k → lastSignal + 1 ≤ k → signalOf w ≡ Bad
 unfolding signalOf
-signal-none w {k} e h = rw (e, le-ltb k 8 h)
+signal-none w {k} e h = rw (e, lt-leb k lastSignal (omega arith))
 
 -- the word is no
 pub no-word : (w : List ℕ) {q : Bool} → q ≡ same w (bytes "no") → q ≡ true → Value 0 ≡ noOf w

@@ -3,9 +3,12 @@ use Prim.Native.String.{String}
 use mathlib.Core.Path.{_≡_, refl}
 use mathlib.Core.List.{List, [], _∷_, map}
 use Rattle.text.specs.Strings.{bytes, same, indexFrom}
+use Rattle.service.specs.Numbers.{signalNumber}
+use Rattle.service.specs.declared.Kind.the-variants.{Scripted}
+use Rattle.service.specs.declared.Signal.the-variants.{Kill, None as NoSignal}
 use Rattle.word.specs.declared.Setting.{Setting}
 use Rattle.word.specs.declared.Setting.the-variants.{Value, Bad}
-use Rattle.word.specs.Words.{flagOf, noOf, kindOf, signalNames, signalOf}
+use Rattle.word.specs.Words.{flagOf, noOf, kindOf, kindValue, signalNames, signalOf}
 use Rattle.word.specs.Decimals.{digitOf, readOf, decimalFrom, timeEnd, timeOf, countEnd, countOf}
 use Rattle.word.specs.Properties.{propertyNames, propertyOf, settingOf}
 
@@ -43,10 +46,10 @@ examples =
     record { property = "restart"; word = "on-failure"; is = Bad } ∷
     record { property = "smooth-recovery"; word = "false"; is = Value 0 } ∷
     record { property = "smooth-recovery"; word = "yes"; is = Bad } ∷
-    record { property = "type"; word = "scripted"; is = Value 2 } ∷
+    record { property = "type"; word = "scripted"; is = Value (kindValue Scripted) } ∷
     record { property = "type"; word = "bgprocess"; is = Bad } ∷
-    record { property = "term-signal"; word = "none"; is = Value 0 } ∷
-    record { property = "term-signal"; word = "KILL"; is = Value 7 } ∷
+    record { property = "term-signal"; word = "none"; is = Value (signalNumber NoSignal) } ∷
+    record { property = "term-signal"; word = "KILL"; is = Value (signalNumber Kill) } ∷
     record { property = "term-signal"; word = "SIGTERM"; is = Bad } ∷
     []
 

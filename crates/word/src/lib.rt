@@ -1,6 +1,10 @@
 // The words of a description: names of properties, the values of those that are no commands, names of services.
+use service::Kind;
+use service::LAST_SIGNAL;
 use service::LONGEST_TIME;
 use service::MAX_COUNT;
+use service::kind_at;
+use service::kind_number;
 use text::is_digit;
 use text::is_name_byte;
 use text::same_bytes;
@@ -8,12 +12,15 @@ ghost use mathlib.Core.Path.{_≡_};
 ghost use mathlib.Core.Bool.{true};
 ghost use Prim.Native.Nat.{_-_, _^_, _≤_};
 ghost use Rattle.text.specs.Bytes.{isDigit};
-ghost use Rattle.word.specs.Words.{flagOf, noOf, kindOf, signalOf, nameBytes, isName};
+ghost use Rattle.word.specs.Words.{flagOf, noOf, kindValue, kindFrom, kindOf, signalOf, nameBytes, isName};
 ghost use Rattle.word.specs.Decimals.{Sane, blank, digitOf, readOf, decimalFrom, timeOf, countOf};
 ghost use Rattle.word.specs.Properties.{propertyOf, settingOf};
 
 // The longest name of a service.
 pub const LONGEST_NAME: usize = 32;
+
+// How many signals there are.
+const SIGNALS: usize = LAST_SIGNAL as usize + 1;
 
 // A setting as a number, or a value outside its property's rule.
 pub enum Setting {
@@ -93,27 +100,44 @@ fn read_no(word: &[u8]) -> Setting
     Setting::Bad
 }
 
-// A type, numbered from 1.
+// A type as the value of its property: one more than its number, since 0 stands for no type.
+fn kind_value(k: Kind) -> u64
+    ensures { λ n. ⌜ n ≡ kindValue k ⌝ }
+{
+    kind_number(k) + 1
+}
+
+// The type of such a value.
+pub fn kind_from(n: u64) -> Kind
+    ensures { λ k. ⌜ k ≡ kindFrom n ⌝ }
+{
+    if n == 0 {
+        return Kind::Internal;
+    }
+    kind_at(n - 1)
+}
+
+// A type.
 fn read_kind(word: &[u8]) -> Setting
     ensures { λ r. ⌜ r ≡ kindOf (now (word .entry)) ⌝ }
 {
     if same_bytes(word, b"process") {
-        return Setting::Value(1);
+        return Setting::Value(kind_value(Kind::Process));
     }
     if same_bytes(word, b"scripted") {
-        return Setting::Value(2);
+        return Setting::Value(kind_value(Kind::Scripted));
     }
     if same_bytes(word, b"internal") {
-        return Setting::Value(3);
+        return Setting::Value(kind_value(Kind::Internal));
     }
     Setting::Bad
 }
 
-// A signal by its place in the list.
+// A signal by its number.
 fn read_signal(word: &[u8]) -> Setting
     ensures { λ r. ⌜ r ≡ signalOf (now (word .entry)) ⌝ }
 {
-    let names: [&[u8]; 8] = [
+    let names: [&[u8]; SIGNALS] = [
         b"none",
         b"HUP",
         b"INT",
@@ -124,7 +148,7 @@ fn read_signal(word: &[u8]) -> Setting
         b"KILL",
     ];
     let mut k: usize = 0;
-    while k < 8 {
+    while k < SIGNALS {
         let n = names[k];
         let found = same_bytes(word, n);
         if found {

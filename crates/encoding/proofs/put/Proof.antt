@@ -1,16 +1,17 @@
--- `put` meets its contract: the first k of the twelve numbers stand in their places.
+-- `put` meets its contract: the first k of the numbers stand in their places.
 use borrow.Author.Needs.{needs}
 use Prim.Native.Nat.{_+_, _-_}
 use lib.ListN.{getD, set}
 use Rattle.base.proofs.Loops.{Folded, folded-none, folded-more, folded-all}
+use Rattle.encoding.specs.Numbers.{perPlace}
 use Rattle.encoding.proofs.put.Statement.{statement}
 use Rattle.encoding.proofs.put.Tie as tie
 
 abbrev Inv-loop : tie.InvT-loop
-Inv-loop numbers₀ at line k₀ numbers k = Folded (λ m j. set m (at + j) (getD line j 0)) numbers₀ 12 numbers k
+Inv-loop numbers₀ at line k₀ numbers k = Folded (λ m j. set m (at + j) (getD line j 0)) numbers₀ perPlace numbers k
 
 abbrev μ-loop : tie.MeasureT-loop
-μ-loop numbers₀ at line k₀ numbers k = 12 - k
+μ-loop numbers₀ at line k₀ numbers k = perPlace - k
 
 loop-holds : tie.Need-loop-holds Inv-loop μ-loop
 loop-holds c = folded-none

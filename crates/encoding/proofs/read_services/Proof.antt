@@ -20,7 +20,9 @@ loop-again : tie.Need-loop-again Inv-loop μ-loop
 loop-again c = search reading-more
 
 returns : tie.Need-returns Inv-loop μ-loop
-returns c = reading-all (c .before .loop .inv) (c .loop-test .left)
+returns c =
+    let at-loop = c .before in
+    reading-all (at-loop .loop .inv) (c .loop-test .left)
 
 pub read-services-spec : {M : Type 1} → statement M
 read-services-spec =

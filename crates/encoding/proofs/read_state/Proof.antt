@@ -5,7 +5,10 @@ use Rattle.encoding.proofs.read_state.Statement.{statement}
 use Rattle.encoding.proofs.read_state.Tie as tie
 
 returns : tie.Need-returns
-returns c = state-read _ (c .before .before .fresh .ensures) (c .before .read-records .ensures)
+returns c =
+    let at-records = c .before in
+    let at-fresh = at-records .before in
+    state-read _ (at-fresh .fresh .ensures) (at-records .read-records .ensures)
 
 pub read-state-spec : {M : Type 1} → statement M
 read-state-spec =

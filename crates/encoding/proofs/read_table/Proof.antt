@@ -5,7 +5,10 @@ use Rattle.encoding.proofs.read_table.Statement.{statement}
 use Rattle.encoding.proofs.read_table.Tie as tie
 
 returns : tie.Need-returns
-returns c = table-read _ (c .before .before .default .ensures) (c .before .read-services .ensures)
+returns c =
+    let at-services = c .before in
+    let at-default = at-services .before in
+    table-read _ (at-default .default .ensures) (at-services .read-services .ensures)
 
 pub read-table-spec : {M : Type 1} → statement M
 read-table-spec =

@@ -1,4 +1,4 @@
--- `record_from` meets its contract: field by field.
+-- `record_from` meets its contract: field by field. Each line of needs is that of one number, or of one call.
 use borrow.Author.Needs.{needs}
 use Rattle.encoding.specs.Numbers.{recordFrom}
 use Rattle.encoding.proofs.record_from.Statement.{statement}
@@ -7,52 +7,27 @@ use Rattle.encoding.proofs.record_from.Tie as tie
 returns : tie.Need-returns
 unfolding recordFrom
 returns c =
-    rw (
-      c .deadline-of .ensures,
-      c .before .number-at12 .ensures,
-      c .before .before .number-at11 .ensures,
-      c .before .before .before .number-at10 .ensures,
-      c .before .before .before .before .number-at9 .ensures,
-      c .before .before .before .before .before .number-at8 .ensures,
-      c .before .before .before .before .before .before .number-at7 .ensures,
-      c .before .before .before .before .before .before .before .number-at6 .ensures,
-      c .before .before .before .before .before .before .before .before .number-at5 .ensures,
-      c .before .before .before .before .before .before .before .before .before .number-at4 .ensures,
-      c .before .before .before .before .before .before .before .before .before .before .number-at3 .ensures,
-      c .before .before .before .before .before .before .before .before .before .before .before .cause-of .ensures,
-      c .before .before .before .before .before .before .before .before .before .before .before .before .number-at2 .ensures,
-      c .before .before .before .before .before .before .before .before .before .before .before .before .before .phase-of .ensures,
-      c .before .before .before .before .before .before .before .before .before .before .before .before .before .before .number-at .ensures,
-    )
+    let at-cause = c .before .before .before in
+    let at-phase = at-cause .before .before in
+    rw (c .deadline-of .ensures, at-cause .cause-at .ensures, at-phase .phase-at .ensures)
 
 pub record-from-spec : {M : Type 1} → statement M
 record-from-spec =
     tie.close
     (tie.spec
+    (λ c. search needs) (λ c. search needs) (λ c. search needs)
+    (λ c. search needs) (λ c. search needs) (λ c. search needs)
+    (λ c. search needs) (λ c. search needs) (λ c. search needs)
+    (λ c. search needs) (λ c. search needs) (λ c. search needs)
+    (λ c. search needs) (λ c. search needs) (λ c. search needs)
+    (λ c. search needs) (λ c. search needs) (λ c. search needs)
+    (λ c. search needs) (λ c. search needs) (λ c. search needs)
+    (λ c. search needs) (λ c. search needs) (λ c. search needs)
+    (λ c. search needs) (λ c. search needs)
     (λ c κs. search needs)
+    (λ c. search needs) (λ c. search needs) (λ c. search needs)
     (λ c κs. search needs)
-    (λ c. search needs)
-    (λ c κs. search needs)
-    (λ c κs. search needs)
-    (λ c. search needs)
-    (λ c κs. search needs)
-    (λ c. search needs)
-    (λ c κs. search needs)
-    (λ c. search needs)
-    (λ c κs. search needs)
-    (λ c. search needs)
-    (λ c κs. search needs)
-    (λ c. search needs)
-    (λ c κs. search needs)
-    (λ c. search needs)
-    (λ c κs. search needs)
-    (λ c. search needs)
-    (λ c κs. search needs)
-    (λ c. search needs)
-    (λ c κs. search needs)
-    (λ c. search needs)
-    (λ c κs. search needs)
-    (λ c. search needs)
-    (λ c κs. search needs)
+    (λ c. search needs) (λ c. search needs) (λ c. search needs)
+    (λ c. search needs) (λ c. search needs) (λ c. search needs)
     (λ c κs. search needs)
     returns)

@@ -5,16 +5,24 @@ use Rattle.encoding.proofs.record_numbers.Tie as tie
 
 returns : tie.Need-returns
 returns c =
+    let at-time = c .before in
+    let at-timed = at-time .before in
+    let at-deadline = at-timed .before in
+    let at-cause = at-deadline .before in
+    let at-live = at-cause .before in
+    let at-aside = at-live .before in
+    let at-wanted = at-aside .before in
+    let at-phase = at-wanted .before in
     rw (
       c .flag-number5 .ensures,
-      c .before .time-of .ensures,
-      c .before .before .flag-number4 .ensures,
-      c .before .before .before .is-timed .ensures,
-      c .before .before .before .before .cause-number .ensures,
-      c .before .before .before .before .before .flag-number3 .ensures,
-      c .before .before .before .before .before .before .flag-number2 .ensures,
-      c .before .before .before .before .before .before .before .flag-number .ensures,
-      c .before .before .before .before .before .before .before .before .phase-number .ensures,
+      at-time .time-of .ensures,
+      at-timed .flag-number4 .ensures,
+      at-deadline .is-timed .ensures,
+      at-cause .cause-number .ensures,
+      at-live .flag-number3 .ensures,
+      at-aside .flag-number2 .ensures,
+      at-wanted .flag-number .ensures,
+      at-phase .phase-number .ensures,
     )
 
 pub record-numbers-spec : {M : Type 1} → statement M

@@ -1,4 +1,4 @@
--- `settings_from` meets its contract: field by field.
+-- `settings_from` meets its contract: field by field. Each line of needs is that of one number, or of one call.
 use borrow.Author.Needs.{needs}
 use Rattle.encoding.specs.Numbers.{settingsFrom}
 use Rattle.encoding.proofs.settings_from.Statement.{statement}
@@ -7,50 +7,25 @@ use Rattle.encoding.proofs.settings_from.Tie as tie
 returns : tie.Need-returns
 unfolding settingsFrom
 returns c =
-    rw (
-      c .number-at12 .ensures,
-      c .before .number-at11 .ensures,
-      c .before .before .number-at10 .ensures,
-      c .before .before .before .number-at9 .ensures,
-      c .before .before .before .before .number-at8 .ensures,
-      c .before .before .before .before .before .number-at7 .ensures,
-      c .before .before .before .before .before .before .number-at6 .ensures,
-      c .before .before .before .before .before .before .before .number-at5 .ensures,
-      c .before .before .before .before .before .before .before .before .signal-of .ensures,
-      c .before .before .before .before .before .before .before .before .before .number-at4 .ensures,
-      c .before .before .before .before .before .before .before .before .before .before .number-at3 .ensures,
-      c .before .before .before .before .before .before .before .before .before .before .before .number-at2 .ensures,
-      c .before .before .before .before .before .before .before .before .before .before .before .before .kind-of .ensures,
-      c .before .before .before .before .before .before .before .before .before .before .before .before .before .number-at .ensures,
-    )
+    let at-kind = c .before .before in
+    rw (c .signal-at .ensures, at-kind .kind-at .ensures)
 
 pub settings-from-spec : {M : Type 1} → statement M
 settings-from-spec =
     tie.close
     (tie.spec
+    (λ c. search needs) (λ c. search needs) (λ c. search needs)
+    (λ c. search needs) (λ c. search needs) (λ c. search needs)
+    (λ c. search needs) (λ c. search needs) (λ c. search needs)
+    (λ c. search needs) (λ c. search needs) (λ c. search needs)
+    (λ c. search needs) (λ c. search needs) (λ c. search needs)
+    (λ c. search needs) (λ c. search needs) (λ c. search needs)
+    (λ c. search needs) (λ c. search needs) (λ c. search needs)
+    (λ c. search needs) (λ c. search needs) (λ c. search needs)
+    (λ c. search needs) (λ c. search needs) (λ c. search needs)
+    (λ c. search needs) (λ c. search needs) (λ c. search needs)
+    (λ c. search needs) (λ c. search needs)
     (λ c κs. search needs)
-    (λ c κs. search needs)
-    (λ c. search needs)
-    (λ c κs. search needs)
-    (λ c. search needs)
-    (λ c κs. search needs)
-    (λ c. search needs)
-    (λ c κs. search needs)
-    (λ c κs. search needs)
-    (λ c. search needs)
-    (λ c κs. search needs)
-    (λ c. search needs)
-    (λ c κs. search needs)
-    (λ c. search needs)
-    (λ c κs. search needs)
-    (λ c. search needs)
-    (λ c κs. search needs)
-    (λ c. search needs)
-    (λ c κs. search needs)
-    (λ c. search needs)
-    (λ c κs. search needs)
-    (λ c. search needs)
-    (λ c κs. search needs)
-    (λ c. search needs)
+    (λ c. search needs) (λ c. search needs) (λ c. search needs)
     (λ c κs. search needs)
     returns)

@@ -4,7 +4,11 @@ use Rattle.encoding.proofs.settings_numbers.Statement.{statement}
 use Rattle.encoding.proofs.settings_numbers.Tie as tie
 
 returns : tie.Need-returns
-returns c = rw (c .flag-number2 .ensures, c .before .signal-number .ensures, c .before .before .flag-number .ensures, c .before .before .before .kind-number .ensures)
+returns c =
+    let at-signal = c .before in
+    let at-restart = at-signal .before in
+    let at-kind = at-restart .before in
+    rw (c .flag-number2 .ensures, at-signal .signal-number .ensures, at-restart .flag-number .ensures, at-kind .kind-number .ensures)
 
 pub settings-numbers-spec : {M : Type 1} → statement M
 settings-numbers-spec =

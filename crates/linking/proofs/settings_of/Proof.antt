@@ -5,7 +5,11 @@ use Rattle.linking.proofs.settings_of.Tie as tie
 
 returns : tie.Need-returns
 returns c =
-    rw (c .before .before .before .before .before .before .before .signal-of .ensures, c .before .before .before .before .before .before .before .before .before .kind-of .ensures, c .before .before .before .before .before .before .before .before .signal-of-arg .given, c .before .before .before .before .before .before .before .before .before .before .kind-of-arg .given, c .t33 .given, c .before .t30 .given, c .before .before .t27 .given, c .before .before .before .t24 .given, c .before .before .before .before .t10 .given, c .before .before .before .before .before .restart .given, c .before .before .before .before .before .before .stop .given)
+    let at-interval = c .before .before .before in
+    let at-stop = at-interval .before .before .before in
+    let at-signal = at-stop .before in
+    let at-kind = at-signal .before .before in
+    rw (at-signal .signal-at .ensures, at-kind .kind-from .ensures)
 
 pub settings-of-spec : {M : Type 1} → statement M
 settings-of-spec =

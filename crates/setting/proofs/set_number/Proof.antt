@@ -7,11 +7,15 @@ use Rattle.setting.proofs.set_number.Tie as tie
 
 returns : tie.Need-returns
 unfolding numberSet
-returns c = rw (lt-ltb _ _ (c .before .if1 .taken), lt-ltb _ _ (c .if2 .taken))
+returns c =
+    let at-service = c .before in
+    rw (lt-ltb _ _ (at-service .if1 .taken), lt-ltb _ _ (c .if2 .taken))
 
 returns-2 : tie.Need-returns-2
 unfolding numberSet
-returns-2 c = rw (lt-ltb _ _ (c .before .if1 .taken), le-ltb _ _ (c .if2 .left))
+returns-2 c =
+    let at-service = c .before in
+    rw (lt-ltb _ _ (at-service .if1 .taken), le-ltb _ _ (c .if2 .left))
 
 returns-3 : tie.Need-returns-3
 unfolding numberSet

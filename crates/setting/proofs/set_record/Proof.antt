@@ -4,7 +4,9 @@ use Rattle.setting.proofs.set_record.Statement.{statement}
 use Rattle.setting.proofs.set_record.Tie as tie
 
 returns : tie.Need-returns
-returns c = rw (← c .before .before .set-timed .ensures) (c .set-number .ensures)
+returns c =
+    let at-deadline = c .before .before in
+    rw (← at-deadline .set-deadline .ensures) (c .set-number .ensures)
 
 pub set-record-spec : {M : Type 1} → statement M
 set-record-spec = tie.close (tie.spec (λ c κs. search needs) (λ c κs. search needs) returns)
