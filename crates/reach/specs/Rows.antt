@@ -2,10 +2,11 @@
 use Prim.Native.Nat.{ℕ}
 use mathlib.Core.List.{List}
 use lib.ListN.{getD}
+use Rattle.service.specs.Limits.{maxServices}
 
 -- the most rows
 abbrev pub mostRows : ℕ
-mostRows = 32
+mostRows = maxServices
 
 -- the set that i is linked to
 abbrev pub rowsAs : List ℕ → ℕ → ℕ

@@ -3,6 +3,7 @@ use base::has_bit;
 use base::lowest_of;
 use base::lowest_outside;
 use base::single_of;
+use service::MAX_SERVICES;
 ghost use mathlib.Core.Path.{_≡_};
 ghost use mathlib.Core.Bool.{_&&_};
 ghost use Prim.Native.Nat.{_<_, _≤_};
@@ -17,7 +18,7 @@ ghost use Rattle.reach.specs.Spreading.{wide};
 ghost use Rattle.reach.specs.Descent.{subset, grown, AllSafe};
 
 // The most rows.
-pub const MAX_ROWS: usize = 32;
+pub const MAX_ROWS: usize = MAX_SERVICES;
 
 fn joined(k: usize, a: u64, b: u64) -> u64
     ensures { λ m. ⌜ m ≡ through k a b ⌝ }

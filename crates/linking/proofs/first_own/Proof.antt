@@ -19,10 +19,18 @@ loop-holds : tie.Need-loop-holds Inv-loop μ-loop
 loop-holds c = passed-none
 
 returns : tie.Need-returns Inv-loop μ-loop
-returns c = search own-hit
+returns c =
+    let at-loop = c .before .before .before .before in
+    let at-entry = at-loop .before in
+    own-hit (at-entry .args .rows .now) _ (at-entry .pre) _ _ (at-loop .loop .inv) (c .before .before .before .loop-test .taken) (c .before .before .reach-of .ensures)
+    (c .before .has-bit .ensures) (c .if1 .taken)
 
 loop-again : tie.Need-loop-again Inv-loop μ-loop
-loop-again c = search own-more
+loop-again c =
+    let at-loop = c .before .before .before .before in
+    let at-entry = at-loop .before in
+    own-more (at-entry .args .rows .now) _ (at-entry .pre) _ _ (at-loop .loop .inv) (c .before .before .before .loop-test .taken) (c .before .before .reach-of .ensures)
+    (c .before .has-bit .ensures) (c .if1 .left)
 
 returns-2 : tie.Need-returns-2 Inv-loop μ-loop
 returns-2 c = passed-all (c .before .loop .inv) (c .loop-test .left)
