@@ -61,6 +61,9 @@ pub fn lowest_outside(m: u64) -> usize
 pub fn lowest(m: u64, n: usize) -> usize
     ensures { λ r. ⌜ r ≡ first (hasBit m) n ⌝ }
 {
+    if m == 0 {
+        return n;
+    }
     let s = lowest_of(m | single_of(n, true));
     if s < 64 { s } else { n }
 }
