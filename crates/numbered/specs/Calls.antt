@@ -1,12 +1,13 @@
 -- The calls over a table and a state in numbers, and their answers as numbers.
 use Prim.Native.Nat.{ℕ}
-use mathlib.Core.Bool.{false}
+use mathlib.Core.Bool.{Bool, _&&_, false}
 use mathlib.Core.List.{List}
 use mathlib.Core.Path.{_≡_}
 use Rattle.base.specs.Folds.{pick}
 use Rattle.service.specs.Numbers.{actionNumber, actionService, isQuiet}
-use Rattle.rules.specs.Calls.{Answer, Call, Outcome, acted, clock, done, end, outcome, ran, refused, start, stop, stopAll, told}
+use Rattle.rules.specs.Calls.{Answer, Call, Outcome, acted, check, clock, done, end, outcome, ran, refused, start, stop, stopAll, told}
 use Rattle.rules.specs.Demand.{isRefused}
+use Rattle.encoding.specs.Meaning.{isState, isTable}
 use Rattle.encoding.specs.Numbers.{stateNumbers, stateOf, tableOf}
 use Rattle.encoding.specs.Values.{timed, timeOf}
 use Rattle.numbered.specs.declared.forms.Event.{Event}
@@ -23,9 +24,13 @@ callOf StopAll = stopAll
 callOf (End s good) = end s good
 callOf (Clock c) = clock c
 
--- the outcome of a call with the table and the state that the numbers say
+-- the numbers stand for a table and a state
+abbrev pub meant : List ℕ → List ℕ → Bool
+meant t x = isTable t && isState x
+
+-- the outcome of a call with the table and the state that the numbers say; 24 comes first, where they stand for nothing
 abbrev pub on : List ℕ → List ℕ → Call → Outcome
-on t x c = outcome (tableOf t) (stateOf x) c
+on t x c = check c (stateOf x) (meant t x) 24 (outcome (tableOf t) (stateOf x) c)
 
 -- the number of a refusal, and 0 for every other answer
 abbrev pub refusalOf : Answer → ℕ

@@ -1,13 +1,12 @@
-// The load and the calls over plain numbers: table and state are lent as numbers, and the answers are numbers.
+// The load and the calls over plain numbers: table and state are lent as numbers, and the answers are numbers. A call with numbers that stand
+// for no table or no state is refused with 24.
 mod forms;
 
-use actions::action_number;
-use actions::action_service;
-use actions::is_quiet;
 use encoding::Numbers;
+use encoding::is_state;
+use encoding::is_table;
 use encoding::read_state;
 use encoding::read_table;
-use encoding::refusal_number;
 use encoding::write_state;
 use encoding::write_table;
 pub use forms::Asked;
@@ -23,21 +22,34 @@ use service::Deadline;
 use service::EventAnswer;
 use service::MAX_SERVICES;
 use service::QueryAnswer;
+use service::Refusal;
 use service::RunAnswer;
 use service::State;
 use service::Table;
+use service::action_number;
+use service::action_service;
+use service::is_quiet;
+use service::refusal_number;
 use storing::Commands;
 ghost use mathlib.Core.Path.{_≡_};
 ghost use Prim.Native.Nat.{_<_};
 ghost use lib.Dec.{eqb};
 ghost use Rattle.base.specs.Folds.{pick};
+ghost use Rattle.service.specs.Limits.{maxServices};
 ghost use Rattle.rules.specs.Calls.{next, query as asking, run, told, outcome, eventAnswer, actionAnswer, runAnswer, queryAnswer, changedOutcome};
 ghost use Rattle.encoding.specs.Numbers.{stateNumbers};
 ghost use Rattle.loader.specs.Load.{load as loading};
-ghost use Rattle.numbered.specs.Calls.{callOf, on, refusalOf, nextOf, runOf, askedOf, Called, Written};
+ghost use Rattle.numbered.specs.Calls.{callOf, meant, on, refusalOf, nextOf, runOf, askedOf, Called, Written};
 ghost use Rattle.numbered.specs.Loads.{loadOf, counted, countsOf, Kept};
 
 // ---- the calls
+
+// The numbers stand for a table and a state.
+fn are_meant(table: &Numbers, state: &Numbers) -> bool
+    ensures { λ b. ⌜ b ≡ meant (now (table .entry)) (now (state .entry)) ⌝ }
+{
+    is_table(table) & is_state(state)
+}
 
 // Writes the state of a call that was not refused.
 fn keep(numbers: &mut Numbers, refusal: u64, x: State)
@@ -74,6 +86,9 @@ fn event_refusal(answer: EventAnswer) -> u64
 pub fn event(table: &Numbers, state: &mut Numbers, e: Event) -> u64
     ensures { λ r. ⌜ Called refusalOf (on (now (table .entry)) (now (state .entry)) (callOf e)) (now (state .entry)) r (now (state .exit)) ⌝ }
 {
+    if !are_meant(table, state) {
+        return event_refusal(EventAnswer::Refused(Refusal::IllFormed));
+    }
     let changed = change(read_table(table), read_state(state), e);
     let answer = changed.answer;
     let refusal = event_refusal(answer);
@@ -107,6 +122,9 @@ fn next_of(answer: ActionAnswer) -> Next
 pub fn next_action(table: &Numbers, state: &mut Numbers) -> Next
     ensures { λ r. ⌜ Called nextOf (on (now (table .entry)) (now (state .entry)) next) (now (state .entry)) r (now (state .exit)) ⌝ }
 {
+    if !are_meant(table, state) {
+        return next_of(ActionAnswer::Refused(Refusal::IllFormed));
+    }
     let stepped = engine::next_action(read_table(table), read_state(state));
     let answer = stepped.answer;
     let told = next_of(answer);
@@ -139,6 +157,9 @@ pub fn run_to_quiet(
     ensures { λ r. ⌜ Called runOf (on (now (table .entry)) (now (state .entry)) (run (now (services .entry)) (now (actions .entry)))) (now (state .entry)) r (now (state .exit)) ⌝ }
     ensures { λ _. ⌜ Written (on (now (table .entry)) (now (state .entry)) (run (now (services .entry)) (now (actions .entry)))) (now (services .exit)) (now (actions .exit)) ⌝ }
 {
+    if !are_meant(table, state) {
+        return run_of(RunAnswer::Refused(Refusal::IllFormed));
+    }
     let ran = engine::run_to_quiet(read_table(table), read_state(state), services, actions);
     let answer = ran.answer;
     let told = run_of(answer);
@@ -180,13 +201,18 @@ fn asked_of(answer: QueryAnswer) -> Asked
 pub fn query(table: &Numbers, state: &Numbers) -> Asked
     ensures { λ r. ⌜ r ≡ askedOf (on (now (table .entry)) (now (state .entry)) asking .answer) ⌝ }
 {
+    if !are_meant(table, state) {
+        return asked_of(QueryAnswer::Refused(Refusal::IllFormed));
+    }
     asked_of(engine::query(read_table(table), read_state(state)))
 }
 
 // ---- the load
 
 // How many tokens each command has, command before stop-command, service by service.
-pub type Counts = [u64; 64];
+pub const COUNTS: usize = 2 * MAX_SERVICES;
+
+pub type Counts = [u64; COUNTS];
 
 fn load_of(answer: Answer, count: usize) -> Load
     ensures { λ r. ⌜ r ≡ loadOf answer count ⌝ }
@@ -213,7 +239,7 @@ fn load_of(answer: Answer, count: usize) -> Load
 
 // Puts how many tokens the two commands of a service have.
 fn put_counts(counts: &mut Counts, s: usize, commands: Commands)
-    requires { ⌜ s < 32 ⌝ }
+    requires { ⌜ s < maxServices ⌝ }
     ensures { λ _. ⌜ now (counts .exit) ≡ counted (now (counts .entry)) s commands ⌝ }
 {
     let start = commands.start;
