@@ -1,5 +1,6 @@
 -- A run: what its loop keeps from action to action, and that it has come to quiet when it ends.
 use Prim.Native.Nat.{ℕ, zero, suc, _+_, _*_, _≤_, _<_}
+use native.Mathlib.Nat.{le-trans}
 use native.Mathlib.Numerals.{add-one}
 use native.Mathlib.Omega.{arith}
 use mathlib.Core.Path.{_≡_, refl, sym, ap, _∙_}
@@ -8,27 +9,41 @@ use mathlib.Core.List.{List}
 use lib.Dec.{leb}
 use lib.ListN.{set, length, length-set}
 use borrow.Author.Tests.{le-leb}
+use Rattle.base.specs.Folds.{pick}
+use Rattle.base.specs.Sets.{overlap}
 use Rattle.base.proofs.Tests.{and-true}
 use Rattle.base.proofs.Loops.{Passed, passed-none, passed-more, passed-hit, passed-all}
 use Rattle.service.specs.Limits.{maxServices}
+use Rattle.service.specs.Settings.{settingsAt}
+use Rattle.service.specs.Records.{recordAt, withRecord}
 use Rattle.service.specs.Numbers.{isQuiet, actionService, actionNumber}
 use Rattle.service.specs.declared.Action.{Action}
 use Rattle.service.specs.declared.Action.the-variants.{Quiet}
 use Rattle.service.specs.declared.ActionAnswer.the-variants.{Act}
 use Rattle.service.specs.declared.RunAnswer.the-variants.{Ran as RanTo}
 use Rattle.service.specs.declared.Ran.{Ran}
+use Rattle.service.specs.declared.Record.{Record}
 use Rattle.service.specs.declared.Table.{Table}
 use Rattle.service.specs.declared.State.{State}
 use Rattle.service.specs.declared.Stepped.{Stepped}
+use Rattle.rules.specs.declared.Rule.{Rule}
+use Rattle.rules.specs.declared.Choice.{Choice}
+use Rattle.rules.specs.declared.Choice.the-variants.{Quiet as NoRule, Fit}
 use Rattle.rules.specs.WellFormed.{formed}
-use Rattle.rules.specs.Rules.{Step, nextAction}
+use Rattle.rules.specs.Rules.{Step, handedBy, leftBy, nextAction}
 use Rattle.rules.specs.Runs.{stateAfter, actionAfter, stepsToQuiet, written, writtenServices, writtenActions}
 use Rattle.rules.specs.Calls.{acted, check, gives, next, outcome, ranOutcome, run, steppedOutcome}
 use Rattle.rules.proofs.Formed.{formed-next, formed-sound, sound-next}
 use Rattle.rules.proofs.Runs.{steps-within}
 use Rattle.rules.proofs.Resting.{rests-everywhere, steps-quiet}
+use Rattle.settling.specs.Sound.{sound}
+use Rattle.standing.specs.declared.Standing.{Standing}
+use Rattle.decide.specs.declared.Fits.{Fits}
+use Rattle.decide.specs.Fits.{choiceFrom}
+use Rattle.decide.proofs.Passes.{Fitting, choice-made, user-gathered}
 use Rattle.engine.specs.declared.Progress.{Progress}
-use Rattle.engine.specs.Quiet.{Advanced, restedWithin}
+use Rattle.engine.specs.Quiet.{Advanced, Room, restedWithin}
+use Rattle.engine.proofs.Steps.{chosen-below, step-quiet, step-fits}
 
 -- the action before number k, or quiet where there is none
 unfoldable pub lastAfter : Table → State → ℕ → Action
@@ -63,12 +78,13 @@ module _ {t : Table} {x : State} {s a : List ℕ} {m : ℕ} where
   }
 
   module _ {s′ a′ : List ℕ} {y : State} {last : Action} {k : ℕ} (h : Running t x s a m s′ a′ y last k) where
-    -- b and w are the action and the state that the code has after the step
-    pub running-more : {n o : ℕ} {b : Action} {w : State} → k < m
-        → (_≡_ {A = Step} (record { action = b; state = w }) (nextAction t y)) × (isQuiet b ≡ false) → n ≡ actionService b → o ≡ actionNumber b
-        → Running t x s a m (set s′ k n) (set a′ k o) w b (k + 1)
+    -- b and w are the action and the state that the code has after the step, s″ and a″ what it has written
+    pub running-more : {s″ a″ : List ℕ} {b : Action} {w : State} → k < m
+        → (_≡_ {A = Step} (record { action = b; state = w }) (nextAction t y)) × (isQuiet b ≡ false)
+        → s″ ≡ set s′ k (actionService b) → a″ ≡ set a′ k (actionNumber b)
+        → Running t x s a m s″ a″ w b (k + 1)
     unfolding stateAfter actionAfter lastAfter written
-    running-more {n} {o} {b} {w} l g p r =
+    running-more {b = b} {w = w} l g p r =
         let e = g .0 in
         let ez = e ∙ ap (nextAction t) (h .state) in
         let eb : b ≡ actionAfter t x k = ap (λ (z : Step). z .action) ez in
@@ -80,11 +96,19 @@ module _ {t : Table} {x : State} {s a : List ℕ} {m : ℕ} where
           state = rw add-one (ap (λ (z : Step). z .state) ez);
           newest = rw add-one eb;
           passed = passed-more (h .passed) l (ap isQuiet eb) (g .1);
-          services = rw (add-one, h .services, p, eb);
-          actions = rw (add-one, h .actions, r, eb);
-          long-services = length-set s′ k n ∙ h .long-services;
-          long-actions = length-set a′ k o ∙ h .long-actions;
+          services = rw (add-one, p, h .services, eb);
+          actions = rw (add-one, r, h .actions, eb);
+          long-services = ap length p ∙ length-set s′ k (actionService b) ∙ h .long-services;
+          long-actions = ap length r ∙ length-set a′ k (actionNumber b) ∙ h .long-actions;
         }
+
+    -- the place k is inside both slices
+    pub running-room : Room m s a → k < m → Room (suc k) s′ a′
+    running-room r l = record {
+      services = rw (h .long-services) (le-trans l (r .services));
+      actions = rw (h .long-actions) (le-trans l (r .actions));
+      few = le-trans l (r .few);
+    }
 
     -- the step is quiet
     pub running-quiet : k < m → _≡_ {A = Step} (record { action = Quiet; state = y }) (nextAction t y)
@@ -116,6 +140,29 @@ module _ {t : Table} {x : State} {s a : List ℕ} {m : ℕ} where
               let all : k ≡ 1 = omega arith in
               rw (h .newest, h .state, all);
         }
+
+-- one turn of the loop: the passes have gathered st and f over the services of y, and c is what the code chose from them
+module _
+  {t : Table} {x : State} {s a : List ℕ} {m : ℕ} {s′ a′ : List ℕ} {y : State} {last : Action} {k : ℕ} {st : Standing} {f : Fits} {j : ℕ} {c : Choice}
+  (h : Running t x s a m s′ a′ y last k) (few : t .count ≤ maxServices) (g : Fitting t y st f j) (z : t .count ≤ j)
+  (e : c ≡ choiceFrom f (t .count)) where
+  pub turn-inside : {i : Rule} {d : ℕ} → c ≡ Fit i d → d < maxServices
+  turn-inside {i} {d} p = le-trans (chosen-below t y c (h .passed-list) (choice-made few g z e) i d p) few
+
+  pub turn-quiet : k < m → c ≡ NoRule → Advanced t x m s a (record { last = Quiet; count = k; state = y }) s′ a′
+  turn-quiet l p = running-quiet h l (step-quiet t y c (h .passed-list) (choice-made few g z e) p)
+
+  -- u, r and b are what the code has found for the rule i and the service d
+  pub turn-on : {s″ a″ : List ℕ} {i : Rule} {d : ℕ} {u : Bool} {r : Record} {b : Action} → k < m → c ≡ Fit i d
+      → u ≡ overlap (settingsAt t d .hard) (st .user)
+      → r ≡ pick (sound (settingsAt t d) (y .clock) (recordAt y d)) (leftBy i u (settingsAt t d) (y .clock) (recordAt y d)) (recordAt y d)
+      → b ≡ handedBy i (settingsAt t d) (recordAt y d) d
+      → s″ ≡ set s′ k (actionService b) → a″ ≡ set a′ k (actionNumber b)
+      → Running t x s a m s″ a″ (withRecord y d r) b (k + 1)
+  turn-on {i = i} {d = d} {u = u} {r = r} {b = b} l p v q n o w =
+      running-more h l
+      (step-fits t y c (h .passed-list) (choice-made few g z e) i d (st .user) u r b (user-gathered few g z) p v q n)
+      o w
 
 -- an accepted call: q is what the code found of list 24, r what it did, and z what it gives back
 module _ (t : Table) (x : State) (q : Bool) (s a s′ a′ : List ℕ) (r : Progress) (e : q ≡ formed t x) (h : q ≡ true) where

@@ -1,10 +1,12 @@
--- What an accepted run to quiet gives back and leaves, and that it has come to quiet within its room.
-use Prim.Native.Nat.{ℕ, _*_}
+-- A run: the room it wants, what it gives back and leaves, and that a run to quiet has come to quiet within its room.
+use Prim.Native.Nat.{ℕ, _*_, _≤_}
 use mathlib.Core.Path.{_≡_}
 use mathlib.Core.Bool.{Bool, true, _&&_}
 use mathlib.Core.List.{List}
 use lib.Dec.{leb}
+use lib.ListN.{length}
 use Rattle.base.specs.Folds.{first}
+use Rattle.service.specs.Limits.{mostActions}
 use Rattle.service.specs.Numbers.{actionNumber, actionService, isQuiet}
 use Rattle.service.specs.declared.RunAnswer.{RunAnswer}
 use Rattle.service.specs.declared.RunAnswer.the-variants.{Ran as RanTo, Refused}
@@ -22,6 +24,12 @@ restedAs (Refused k) t x = true
 
 abbrev pub restedWithin : Table → Ran → Bool
 restedWithin t r = restedAs (r .answer) t (r .state)
+
+-- two slices with room for m actions, which are no more than a run can have
+pub record Room (m : ℕ) (s a : List ℕ) : Type 0 where
+  pub services : m ≤ length s
+  pub actions : m ≤ length a
+  pub few : m ≤ mostActions
 
 -- from x at most m actions are handed out; it got the slices s and a and leaves s′ and a′. With a limit of one it is the next action
 pub record Advanced (t : Table) (x : State) (m : ℕ) (s a : List ℕ) (r : Progress) (s′ a′ : List ℕ) : Type 0 where

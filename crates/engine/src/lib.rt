@@ -1,8 +1,6 @@
 // The calls of the engine: the events and the query under this crate's name too, and here the fresh state, the next action
 // and a run to quiet. The table and the state go by value: a call copies them a few times, and list 24 is judged once in each
 // call, a run too.
-use actions::action_number;
-use actions::action_service;
 use actions::hand_out;
 use base::overlaps;
 use decide::Fits;
@@ -24,18 +22,22 @@ use service::RunAnswer;
 use service::State;
 use service::Stepped;
 use service::Table;
+use service::action_number;
+use service::action_service;
 use standing::Standing;
 use standing::noted;
 use wellformed::is_formed;
 ghost use mathlib.Core.Path.{_≡_};
 ghost use mathlib.Core.Bool.{true};
-ghost use Prim.Native.Nat.{_≤_};
-ghost use lib.ListN.{length};
+ghost use Prim.Native.Nat.{suc, _≤_};
+ghost use lib.ListN.{set};
 ghost use Rattle.service.specs.declared.RunAnswer.the-variants.{Refused};
+ghost use Rattle.service.specs.Limits.{maxServices};
+ghost use Rattle.service.specs.Numbers.{actionNumber, actionService};
 ghost use Rattle.service.specs.Records.{freshState};
 ghost use Rattle.rules.specs.WellFormed.{formed};
 ghost use Rattle.rules.specs.Calls.{next as nextCall, run as runCall, outcome, steppedOutcome, ranOutcome};
-ghost use Rattle.engine.specs.Quiet.{restedWithin, Advanced};
+ghost use Rattle.engine.specs.Quiet.{restedWithin, Advanced, Room};
 
 // The state that a supervisor begins with.
 pub fn fresh() -> State
@@ -51,10 +53,20 @@ pub struct Progress {
     pub state: State,
 }
 
+// Writes an action to the place k of a run: its service to the one slice, its number to the other.
+fn write_action(k: usize, a: Action, services: &mut [u64], actions: &mut [u64])
+    requires { ⌜ Room (suc k) (now services) (now actions) ⌝ }
+    ensures { λ _. ⌜ now (services .exit) ≡ set (now (services .entry)) k (actionService a) ⌝ }
+    ensures { λ _. ⌜ now (actions .exit) ≡ set (now (actions .entry)) k (actionNumber a) ⌝ }
+{
+    services[k] = action_service(a);
+    actions[k] = action_number(a);
+}
+
 // Hands out actions until all is quiet, but no more than the limit, from a state that has passed list 24. Both passes of a step stand
 // here, and the step changes one record in place: a function of its own for a step or a pass would copy table and state each time.
 fn advance(t: Table, x: State, limit: usize, services: &mut [u64], actions: &mut [u64]) -> Progress
-    requires { ⌜ (formed t x ≡ true) × (t .count ≤ 32) × (limit ≤ length (now services)) × (limit ≤ length (now actions)) × (limit ≤ 128) ⌝ }
+    requires { ⌜ (formed t x ≡ true) × (t .count ≤ maxServices) × Room limit (now services) (now actions) ⌝ }
     ensures { λ r. ⌜ Advanced t x limit (now (services .entry)) (now (actions .entry)) r (now (services .exit)) (now (actions .exit)) ⌝ }
 {
     let mut y = x;
@@ -91,8 +103,7 @@ fn advance(t: Table, x: State, limit: usize, services: &mut [u64], actions: &mut
         let q = leave(rule, user, v, y.clock, r);
         last = hand_out(rule, v, r, s);
         y.records[s] = q;
-        services[k] = action_service(last);
-        actions[k] = action_number(last);
+        write_action(k, last, services, actions);
         k += 1;
     }
     Progress {

@@ -1,9 +1,13 @@
 -- The limits and the defaults of paper 01, each named once. Times are in units of 0.1 ms.
-use Prim.Native.Nat.{ℕ, _+_, _^_}
+use Prim.Native.Nat.{ℕ, _+_, _*_, _^_}
 
 -- 1: "more than 32 services"
 abbrev pub maxServices : ℕ
 maxServices = 32
+
+-- a run's actions: at most 4n of n services
+abbrev pub mostActions : ℕ
+mostActions = 4 * maxServices
 
 -- "Times: .. at most 86400 seconds"
 abbrev pub longestTime : ℕ

@@ -24,6 +24,9 @@ ghost use Rattle.service.specs.Records.{freshRecord, freshState, moved, 
 // The most services that a set may have.
 pub const MAX_SERVICES: usize = 32;
 
+// The most actions that a run may hand out before all is quiet: four for each service.
+pub const MAX_ACTIONS: usize = 4 * MAX_SERVICES;
+
 // The longest time that a setting may have, 86400 seconds in units of 0.1 ms.
 pub const LONGEST_TIME: u64 = 864000000;
 

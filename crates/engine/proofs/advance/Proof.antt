@@ -1,16 +1,16 @@
 -- `advance` meets its contract: k actions are handed out; in each step two passes gather the sets, and the choice is made from them.
-use borrow.Author.Needs.{needs}
-use Prim.Native.Nat.{_-_}
+use Prim.Native.Nat.{_-_, _<_}
 use mathlib.Core.Path.{_≡_}
 use lib.ListN.{length}
 use Rattle.base.proofs.Lists.{length-mapped}
 use Rattle.base.proofs.Loops.{Folded, folded-none, folded-more}
+use Rattle.service.specs.Limits.{maxServices}
 use Rattle.service.specs.Settings.{settingsAt}
 use Rattle.service.specs.Records.{recordAt, withRecord}
 use Rattle.standing.specs.Standing.{nowhere, noting}
-use Rattle.decide.proofs.Passes.{Fitting, fitting-none, fitting-more, choice-made, user-gathered}
-use Rattle.engine.proofs.Steps.{chosen-below, step-quiet, step-fits}
-use Rattle.engine.proofs.Running.{Running, running-none, running-more, running-quiet, running-all}
+use Rattle.decide.proofs.Passes.{Fitting, fitting-none, fitting-more}
+use Rattle.engine.proofs.Running.{Running, running-none, running-room, running-all, turn-inside, turn-quiet, turn-on}
+use borrow.Author.Needs.{needs}
 use Rattle.engine.proofs.advance.Statement.{statement}
 use Rattle.engine.proofs.advance.Tie as tie
 
@@ -33,7 +33,10 @@ abbrev μ-loop : tie.MeasureT-loop
 μ-loop limit services₀ actions₀ t y₀ last₀ k₀ services actions y last k = limit - k
 
 loop-holds : tie.Need-loop-holds Inv-loop2 μ-loop2 Inv-loop3 μ-loop3 Inv-loop μ-loop
-loop-holds c = let z : length (c .before .before .args .x .records) ≡ 32 = search (needs, length-mapped) in running-none (c .before .before .pre .0) z
+loop-holds c =
+    let at-start = c .before .before in
+    let z : length (at-start .args .x .records) ≡ maxServices = search (needs, length-mapped) in
+    running-none (at-start .pre .0) z
 
 loop2-holds : tie.Need-loop2-holds Inv-loop2 μ-loop2 Inv-loop3 μ-loop3 Inv-loop μ-loop
 loop2-holds c = rw (c .none .ensures) folded-none
@@ -43,54 +46,92 @@ unfolding settingsAt recordAt
 loop2-again c = search folded-more
 
 loop3-holds : tie.Need-loop3-holds Inv-loop2 μ-loop2 Inv-loop3 μ-loop3 Inv-loop μ-loop
-loop3-holds c = fitting-none (c .before .before .loop2 .inv) (c .before .loop2-test .left) (c .none2 .ensures)
+loop3-holds c = search fitting-none
 
 loop3-again : tie.Need-loop3-again Inv-loop2 μ-loop2 Inv-loop3 μ-loop3 Inv-loop μ-loop
 unfolding settingsAt recordAt
-loop3-again c = fitting-more (c .before .before .before .before .loop3 .inv) (c .before .before .before .loop3-test .taken) (c .fit .ensures)
+loop3-again c = search fitting-more
 
 returns : tie.Need-returns Inv-loop2 μ-loop2 Inv-loop3 μ-loop3 Inv-loop μ-loop
-returns c = running-quiet (c .before .before .before .before .before .before .before .before .before .before .loop .inv) (c .before .before .before .before .before .before .before .before .before .loop-test .taken) (step-quiet _ _ _ (c .before .before .before .before .before .before .before .before .before .before .loop .inv .passed-list) (choice-made (c .before .before .before .before .before .before .before .before .before .before .before .before .before .pre .1) (c .before .before .before .before .loop3 .inv) (c .before .before .before .loop3-test .left) (c .before .before .choose .ensures)) (c .enum-told .given .1))
+returns c = search turn-quiet
+
+-- ---- from the place where a rule and a service are chosen: the choice, the second pass and the loop's turn
+
+abbrev Chosen : Type 0
+Chosen = tie.After-known-told Inv-loop2 μ-loop2 Inv-loop3 μ-loop3 Inv-loop μ-loop
+
+abbrev at-choice : Chosen → tie.After-choose Inv-loop2 μ-loop2 Inv-loop3 μ-loop3 Inv-loop μ-loop
+at-choice c = c .before .before .before
+
+abbrev at-pass : Chosen → tie.At-loop3 Inv-loop2 μ-loop2 Inv-loop3 μ-loop3 Inv-loop μ-loop
+at-pass c = at-choice c .before .before
+
+abbrev at-turn : Chosen → tie.In-loop Inv-loop2 μ-loop2 Inv-loop3 μ-loop3 Inv-loop μ-loop
+at-turn c = at-pass c .before .before .before .before .before
+
+abbrev at-start : Chosen → tie.Start Inv-loop2 μ-loop2 Inv-loop3 μ-loop3 Inv-loop μ-loop
+at-start c = at-turn c .before .before .before .before
+
+inside : (c : Chosen) → c .before .c .given .0 .1 .0 < maxServices
+inside c =
+    turn-inside (at-turn c .before .loop .inv) (at-start c .pre .1) (at-pass c .loop3 .inv) (at-choice c .before .loop3-test .left)
+    (at-choice c .choose .ensures) (c .before .c .given .1)
 
 mul-v-3 : tie.Need-mul-v-3 Inv-loop2 μ-loop2 Inv-loop3 μ-loop3 Inv-loop μ-loop
-mul-v-3 c = let l = chosen-below _ _ _ (c .before .before .before .before .before .before .before .before .before .before .before .loop .inv .passed-list) (choice-made (c .before .before .before .before .before .before .before .before .before .before .before .before .before .before .pre .1) (c .before .before .before .before .before .loop3 .inv) (c .before .before .before .before .loop3-test .left) (c .before .before .before .choose .ensures)) _ _ (c .before .c .given .1) in let m = c .before .before .before .before .before .before .before .before .before .before .before .before .before .before .pre .1 in search needs
+mul-v-3 c = let l = inside c in search needs
 
 element-copy-out-v-3 : tie.Need-element-copy-out-v-3 Inv-loop2 μ-loop2 Inv-loop3 μ-loop3 Inv-loop μ-loop
-element-copy-out-v-3 c = let l = chosen-below _ _ _ (c .before .before .before .before .before .before .before .before .before .before .before .loop .inv .passed-list) (choice-made (c .before .before .before .before .before .before .before .before .before .before .before .before .before .before .pre .1) (c .before .before .before .before .before .loop3 .inv) (c .before .before .before .before .loop3-test .left) (c .before .before .before .choose .ensures)) _ _ (c .before .c .given .1) in let m = c .before .before .before .before .before .before .before .before .before .before .before .before .before .before .pre .1 in search needs
+element-copy-out-v-3 c = inside c
 
 mul-r-3 : tie.Need-mul-r-3 Inv-loop2 μ-loop2 Inv-loop3 μ-loop3 Inv-loop μ-loop
-mul-r-3 c = let l = chosen-below _ _ _ (c .before .before .before .before .before .before .before .before .before .before .before .before .loop .inv .passed-list) (choice-made (c .before .before .before .before .before .before .before .before .before .before .before .before .before .before .before .pre .1) (c .before .before .before .before .before .before .loop3 .inv) (c .before .before .before .before .before .loop3-test .left) (c .before .before .before .before .choose .ensures)) _ _ (c .before .before .c .given .1) in let m = c .before .before .before .before .before .before .before .before .before .before .before .before .before .before .before .pre .1 in search needs
+mul-r-3 c = let l = inside (c .before) in search needs
 
 element-copy-out-r-3 : tie.Need-element-copy-out-r-3 Inv-loop2 μ-loop2 Inv-loop3 μ-loop3 Inv-loop μ-loop
-element-copy-out-r-3 c = let l = chosen-below _ _ _ (c .before .before .before .before .before .before .before .before .before .before .before .before .loop .inv .passed-list) (choice-made (c .before .before .before .before .before .before .before .before .before .before .before .before .before .before .before .pre .1) (c .before .before .before .before .before .before .loop3 .inv) (c .before .before .before .before .before .loop3-test .left) (c .before .before .before .before .choose .ensures)) _ _ (c .before .before .c .given .1) in let m = c .before .before .before .before .before .before .before .before .before .before .before .before .before .before .before .pre .1 in search needs
+element-copy-out-r-3 c = inside (c .before)
 
 mul-q : tie.Need-mul-q Inv-loop2 μ-loop2 Inv-loop3 μ-loop3 Inv-loop μ-loop
-mul-q c = let l = chosen-below _ _ _ (c .before .before .before .before .before .before .before .before .before .before .before .before .before .before .before .before .loop .inv .passed-list) (choice-made (c .before .before .before .before .before .before .before .before .before .before .before .before .before .before .before .before .before .before .before .pre .1) (c .before .before .before .before .before .before .before .before .before .before .loop3 .inv) (c .before .before .before .before .before .before .before .before .before .loop3-test .left) (c .before .before .before .before .before .before .before .before .choose .ensures)) _ _ (c .before .before .before .before .before .before .c .given .1) in let m = c .before .before .before .before .before .before .before .before .before .before .before .before .before .before .before .before .before .before .before .pre .1 in search needs
+mul-q c =
+    let at-chosen = c .before .before .before .before .before in
+    let l = inside at-chosen in
+    search needs
 
 element-set-from-q : tie.Need-element-set-from-q Inv-loop2 μ-loop2 Inv-loop3 μ-loop3 Inv-loop μ-loop
-element-set-from-q c = let l = chosen-below _ _ _ (c .before .before .before .before .before .before .before .before .before .before .before .before .before .before .before .before .loop .inv .passed-list) (choice-made (c .before .before .before .before .before .before .before .before .before .before .before .before .before .before .before .before .before .before .before .pre .1) (c .before .before .before .before .before .before .before .before .before .before .loop3 .inv) (c .before .before .before .before .before .before .before .before .before .loop3-test .left) (c .before .before .before .before .before .before .before .before .choose .ensures)) _ _ (c .before .before .before .before .before .before .c .given .1) in let m = c .before .before .before .before .before .before .before .before .before .before .before .before .before .before .before .before .before .before .before .pre .1 in search needs
+element-set-from-q c = let at-chosen = c .before .before .before .before .before in inside at-chosen
 
-mul-services : tie.Need-mul-services Inv-loop2 μ-loop2 Inv-loop3 μ-loop3 Inv-loop μ-loop
-mul-services c = let m = c .before .before .before .before .before .before .before .before .before .before .before .before .before .before .before .before .before .before .before .before .pre .4 in let k = c .before .before .before .before .before .before .before .before .before .before .before .before .before .before .before .before .loop-test .taken in search needs
+-- from the place after the write: where the rule and the service were chosen
+abbrev at-chosen : tie.After-write-action Inv-loop2 μ-loop2 Inv-loop3 μ-loop3 Inv-loop μ-loop → Chosen
+at-chosen c = c .before .before .before .before .before .before .before .before
 
-slice-write-services : tie.Need-slice-write-services Inv-loop2 μ-loop2 Inv-loop3 μ-loop3 Inv-loop μ-loop
-slice-write-services c = let l = c .before .before .before .before .before .before .before .before .before .before .before .before .before .before .before .before .before .loop .inv .long-services in let m = c .before .before .before .before .before .before .before .before .before .before .before .before .before .before .before .before .before .before .before .before .pre .2 in let k = c .before .before .before .before .before .before .before .before .before .before .before .before .before .before .before .before .loop-test .taken in search needs
-
-mul-actions : tie.Need-mul-actions Inv-loop2 μ-loop2 Inv-loop3 μ-loop3 Inv-loop μ-loop
-mul-actions c = let m = c .before .before .before .before .before .before .before .before .before .before .before .before .before .before .before .before .before .before .before .before .before .pre .4 in let k = c .before .before .before .before .before .before .before .before .before .before .before .before .before .before .before .before .before .loop-test .taken in search needs
-
-slice-write-actions : tie.Need-slice-write-actions Inv-loop2 μ-loop2 Inv-loop3 μ-loop3 Inv-loop μ-loop
-slice-write-actions c = let l = c .before .before .before .before .before .before .before .before .before .before .before .before .before .before .before .before .before .before .loop .inv .long-actions in let m = c .before .before .before .before .before .before .before .before .before .before .before .before .before .before .before .before .before .before .before .before .before .pre .3 in let k = c .before .before .before .before .before .before .before .before .before .before .before .before .before .before .before .before .before .loop-test .taken in search needs
+write-action-requires : tie.Need-write-action-requires Inv-loop2 μ-loop2 Inv-loop3 μ-loop3 Inv-loop μ-loop
+write-action-requires c κs =
+    let chosen = c .before .before .before .before .before .before .before in
+    running-room (at-turn chosen .before .loop .inv) (at-start chosen .pre .2) (at-turn chosen .loop-test .taken)
 
 add-k : tie.Need-add-k Inv-loop2 μ-loop2 Inv-loop3 μ-loop3 Inv-loop μ-loop
-add-k c = let m = c .before .before .before .before .before .before .before .before .before .before .before .before .before .before .before .before .before .before .before .before .before .pre .4 in let k = c .before .before .before .before .before .before .before .before .before .before .before .before .before .before .before .before .before .loop-test .taken in search needs
+add-k c =
+    let chosen = at-chosen (c .before .before .before .before) in
+    let few = at-start chosen .pre .2 .few in
+    let l = at-turn chosen .loop-test .taken in
+    search needs
+
+loop-less : tie.Need-loop-less Inv-loop2 μ-loop2 Inv-loop3 μ-loop3 Inv-loop μ-loop
+loop-less c =
+    let l = at-turn (at-chosen (c .before .before .before .before)) .loop-test .taken in
+    search needs
 
 loop-again : tie.Need-loop-again Inv-loop2 μ-loop2 Inv-loop3 μ-loop3 Inv-loop μ-loop
 unfolding settingsAt recordAt withRecord
-loop-again c = running-more (c .before .before .before .before .before .before .before .before .before .before .before .before .before .before .before .before .before .before .loop .inv) (c .before .before .before .before .before .before .before .before .before .before .before .before .before .before .before .before .before .loop-test .taken) (step-fits _ _ _ (c .before .before .before .before .before .before .before .before .before .before .before .before .before .before .before .before .before .before .loop .inv .passed-list) (choice-made (c .before .before .before .before .before .before .before .before .before .before .before .before .before .before .before .before .before .before .before .before .before .pre .1) (c .before .before .before .before .before .before .before .before .before .before .before .before .loop3 .inv) (c .before .before .before .before .before .before .before .before .before .before .before .loop3-test .left) (c .before .before .before .before .before .before .before .before .before .before .choose .ensures)) _ _ _ _ _ _ (user-gathered (c .before .before .before .before .before .before .before .before .before .before .before .before .before .before .before .before .before .before .before .before .before .pre .1) (c .before .before .before .before .before .before .before .before .before .before .before .before .loop3 .inv) (c .before .before .before .before .before .before .before .before .before .before .before .loop3-test .left)) (c .before .before .before .before .before .before .before .before .c .given .1) (c .before .before .before .before .overlaps .ensures) (c .before .before .before .leave .ensures) (c .before .before .hand-out .ensures)) (c .before .action-service .ensures) (c .action-number .ensures)
+loop-again c =
+    let at-write = c .before .before .before .before in
+    let at-hand = at-write .before .before .before in
+    let chosen = at-chosen at-write in
+    turn-on (at-turn chosen .before .loop .inv) (at-start chosen .pre .1) (at-pass chosen .loop3 .inv) (at-choice chosen .before .loop3-test .left)
+    (at-choice chosen .choose .ensures) (at-turn chosen .loop-test .taken) (chosen .before .c .given .1)
+    (at-hand .before .before .overlaps .ensures) (at-hand .before .leave .ensures) (at-hand .hand-out .ensures)
+    (at-write .write-action .ensures .0) (at-write .write-action .ensures .1)
 
 returns-2 : tie.Need-returns-2 Inv-loop2 μ-loop2 Inv-loop3 μ-loop3 Inv-loop μ-loop
-returns-2 c = running-all (c .before .loop .inv) (c .loop-test .left)
+returns-2 c = search running-all
 
 pub advance-spec : {M : Type 1} → statement M
 advance-spec =
@@ -138,14 +179,9 @@ advance-spec =
     (λ c κs. search needs)
     mul-q
     element-set-from-q
-    (λ c κs. search needs)
-    mul-services
-    slice-write-services
-    (λ c κs. search needs)
-    mul-actions
-    slice-write-actions
+    write-action-requires
     add-k
-    (λ c. search needs)
+    loop-less
     loop-again
     (λ c. search needs)
     (λ c. search needs)

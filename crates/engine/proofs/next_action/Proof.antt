@@ -5,15 +5,18 @@ use native.Mathlib.Omega.{arith}
 use Rattle.rules.specs.Calls.{check, outcome}
 use Rattle.rules.proofs.Formed.{formed-few}
 use Rattle.engine.proofs.Running.{next-done}
-use borrow.Author.Needs.{needs}
 use Rattle.engine.proofs.next_action.Statement.{statement}
 use Rattle.engine.proofs.next_action.Tie as tie
 
 advance-requires : tie.Need-advance-requires
-advance-requires c κs = (sym (c .before .before .before .is-formed .ensures) ∙ c .before .before .if1 .taken, formed-few _ _ _ (c .before .before .before .is-formed .ensures) (c .before .before .if1 .taken), omega arith, omega arith, omega arith)
+advance-requires c κs =
+    let at-test = c .before .before in
+    let found = at-test .before .is-formed .ensures in
+    let few = formed-few _ _ _ found (at-test .if1 .taken) in
+    (sym found ∙ at-test .if1 .taken, few, record { services = omega arith; actions = omega arith; few = omega arith })
 
 returns : tie.Need-returns
-returns c = next-done _ _ _ _ _ _ _ _ (c .before .before .before .before .before .before .before .is-formed .ensures) (c .before .before .before .before .before .before .if1 .taken) _ (c .before .before .before .advance .ensures) refl
+returns c = search next-done
 
 returns-2 : tie.Need-returns-2
 unfolding outcome check
