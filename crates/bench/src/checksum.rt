@@ -1,47 +1,25 @@
 // The checksum: answers and states as numbers, taken up one after the other.
-use actions::action_number;
-use actions::action_service;
-use actions::is_quiet;
+use crate::inputs::LARGE;
 use service::Action;
 use service::ActionAnswer;
-use service::Cause;
 use service::Deadline;
 use service::EventAnswer;
-use service::Phase;
+use service::MAX_SERVICES;
 use service::QueryAnswer;
 use service::Record;
 use service::Refusal;
 use service::RunAnswer;
 use service::State;
-ghost use Prim.Native.Nat.{_<_};
+use service::action_number;
+use service::action_service;
+use service::cause_number;
+use service::is_quiet;
+use service::phase_number;
+use service::refusal_number;
 
 // The checksum with one number more.
 pub(crate) fn taken_up(sum: u64, number: u64) -> u64 {
     sum % 4294967296 * 31 + number % 4294967296
-}
-
-fn phase_number(p: Phase) -> u64
-    ensures { λ r. ⌜ r < 8 ⌝ }
-{
-    match p {
-        Phase::Down => 0,
-        Phase::Waiting => 1,
-        Phase::Starting => 2,
-        Phase::Up => 3,
-        Phase::Ending => 4,
-    }
-}
-
-fn cause_number(c: Cause) -> u64
-    ensures { λ r. ⌜ r < 8 ⌝ }
-{
-    match c {
-        Cause::None => 0,
-        Cause::User => 1,
-        Cause::Released => 2,
-        Cause::Fell => 3,
-        Cause::Failed => 4,
-    }
 }
 
 // The weight of a flag that is set, or 0.
@@ -49,6 +27,7 @@ fn flag(b: bool, weight: u64) -> u64 {
     if b { weight } else { 0 }
 }
 
+// Phase, cause and flags in one number: each has bits of its own.
 pub(crate) fn record_number(r: Record) -> u64 {
     let p = r.phase;
     let c = r.cause;
@@ -57,7 +36,7 @@ pub(crate) fn record_number(r: Record) -> u64 {
         | flag(r.aside, 128)
         | flag(r.live, 256)
         | flag(r.killed, 512)
-        | (8 * cause_number(c))
+        | (8 * (cause_number(c) % 8))
 }
 
 fn time_number(d: Deadline) -> u64 {
@@ -67,21 +46,8 @@ fn time_number(d: Deadline) -> u64 {
     }
 }
 
-fn refusal_number(k: Refusal) -> u64
-    ensures { λ r. ⌜ r < 32 ⌝ }
-{
-    match k {
-        Refusal::IllFormed => 24,
-        Refusal::NoService => 20,
-        Refusal::NotLive => 21,
-        Refusal::ClockBack => 22,
-        Refusal::ClockPast => 23,
-        Refusal::NoRoom => 25,
-    }
-}
-
 fn refused(k: Refusal) -> u64 {
-    1024 * refusal_number(k)
+    1024 * (refusal_number(k) % 32)
 }
 
 // The checksum with an event's answer and the record that it left.
@@ -96,7 +62,7 @@ fn act_number(a: Action) -> u64 {
     if is_quiet(a) {
         return 0;
     }
-    1 + action_service(a) % 32 + 32 * (action_number(a) % 16)
+    1 + action_service(a) % LARGE as u64 + LARGE as u64 * (action_number(a) % 16)
 }
 
 pub(crate) fn answer_taken_up(sum: u64, a: ActionAnswer) -> u64 {
@@ -146,7 +112,7 @@ fn record_taken_up(sum: u64, r: Record) -> u64 {
 pub(crate) fn state_taken_up(sum: u64, x: State, n: usize) -> u64 {
     let mut next = taken_up(sum, x.clock);
     let mut i: usize = 0;
-    while i < 32 {
+    while i < MAX_SERVICES {
         if i < n {
             let r = x.records[i];
             next = record_taken_up(next, r);

@@ -1,43 +1,51 @@
-// The inputs of the loops: they follow from the number n of services, 2, 8 or 32, alone. docs/BENCHMARKS.md says how.
+// The inputs of the loops: they follow from the number n of services, which is small, middle or large, alone. docs/BENCHMARKS.md says how.
 use base::single_of;
-use service::Cause;
-use service::Deadline;
 use service::Kind;
+use service::MAX_SERVICES;
 use service::Phase;
 use service::Record;
 use service::Settings;
 use service::Signal;
 use service::State;
 use service::Table;
+use service::with_phase;
 ghost use Prim.Native.Nat.{_<_};
+ghost use Rattle.service.specs.Limits.{maxServices};
+
+// The numbers of services.
+pub(crate) const SMALL: usize = 2;
+
+pub(crate) const MIDDLE: usize = 8;
+
+pub(crate) const LARGE: usize = 32;
 
 // The clock of the states in which services are up.
 pub(crate) const UP_CLOCK: u64 = 1000000;
 
-// The number k modulo n; an n other than 2 and 8 counts as 32.
+// The number k modulo n; an n that is neither small nor middle counts as large.
 pub(crate) fn modulo(k: usize, n: usize) -> usize
-    ensures { λ r. ⌜ r < 32 ⌝ }
+    ensures { λ r. ⌜ r < maxServices ⌝ }
 {
-    if n == 2 {
-        return k % 2;
+    if n == SMALL {
+        return k % SMALL;
     }
-    if n == 8 {
-        return k % 8;
+    if n == MIDDLE {
+        return k % MIDDLE;
     }
-    k % 32
+    k % LARGE
 }
 
 // The place of service i in the order of the dependencies.
 fn place_of(i: usize, n: usize) -> usize
-    ensures { λ r. ⌜ r < 32 ⌝ }
+    ensures { λ r. ⌜ r < maxServices ⌝ }
 {
-    modulo(13 * (i % 32), n)
+    modulo(13 * (i % LARGE), n)
 }
 
 pub(crate) fn service_at(place: usize, n: usize) -> usize
-    ensures { λ r. ⌜ r < 32 ⌝ }
+    ensures { λ r. ⌜ r < maxServices ⌝ }
 {
-    modulo(5 * (place % 32), n)
+    modulo(5 * (place % LARGE), n)
 }
 
 // The service so many places before this one, as a set; the empty set where there is none.
@@ -81,7 +89,7 @@ fn settings_of(i: usize, n: usize) -> Settings {
 pub(crate) fn table_of(n: usize) -> Table {
     let mut t = Table::empty();
     let mut i: usize = 0;
-    while i < 32 {
+    while i < MAX_SERVICES {
         if i < n {
             let v = settings_of(i, n);
             t.services[i] = v;
@@ -102,19 +110,11 @@ fn time_of(i: usize, first: u64) -> u64 {
 }
 
 pub(crate) fn record_of(i: usize, up: bool, not_before: u64) -> Record {
-    Record {
-        phase: phase_of(up),
-        wanted: true,
-        aside: false,
-        live: up & !is_internal(i),
-        cause: Cause::None,
-        deadline: Deadline::None,
-        killed: false,
-        not_before,
-        last_launch: 0,
-        window_start: 0,
-        restarts: 0,
-    }
+    let mut r = with_phase(phase_of(up), Record::fresh());
+    r.wanted = true;
+    r.live = up & !is_internal(i);
+    r.not_before = not_before;
+    r
 }
 
 // Up below the given place, waiting from there on; service 0 may have a not-before.
@@ -122,7 +122,7 @@ pub(crate) fn state_up_to(first_waiting: usize, n: usize, not_before: u64) -> St
     let mut x = State::fresh();
     x.clock = UP_CLOCK;
     let mut i: usize = 0;
-    while i < 32 {
+    while i < MAX_SERVICES {
         if i < n {
             let r = record_of(i, place_of(i, n) < first_waiting, time_of(i, not_before));
             x.records[i] = r;

@@ -1,19 +1,33 @@
-// The loop of loads. Names and texts come from standard input: 3 and 1,024 bytes for each service, one after the other.
+// The loop of loads. Names and texts come from standard input, one after the other.
 use crate::checksum::taken_up;
+use crate::inputs::LARGE;
+use crate::inputs::MIDDLE;
+use crate::inputs::SMALL;
 use crate::inputs::modulo;
 use lent::Answer;
 use loader::Loaded;
 use loader::load;
+use service::MAX_SERVICES;
 use service::Settings;
 use service::Table;
 
-// The lent positions of 32 services: for each its name's end and its text's.
-fn positions() -> [usize; 64] {
-    let mut ends = [0usize; 64];
+// How many bytes a name has, a text, and both.
+const NAME: usize = 3;
+
+const TEXT: usize = 1024;
+
+const BOTH: usize = NAME + TEXT;
+
+// How many positions the services have: for each its name's end and its text's.
+const ENDS: usize = 2 * LARGE;
+
+// The lent positions.
+fn positions() -> [usize; ENDS] {
+    let mut ends = [0usize; ENDS];
     let mut i: usize = 0;
-    while i < 32 {
-        ends[2 * i] = 1027 * i + 3;
-        ends[2 * i + 1] = 1027 * i + 1027;
+    while i < LARGE {
+        ends[2 * i] = BOTH * i + NAME;
+        ends[2 * i + 1] = BOTH * i + BOTH;
         i += 1;
     }
     ends
@@ -28,7 +42,7 @@ fn settings_taken_up(sum: u64, v: Settings) -> u64 {
 
 // The checksum with the size of the table and the settings of service s.
 fn table_taken_up(sum: u64, t: Table, s: usize) -> u64 {
-    if s < 32 {
+    if s < MAX_SERVICES {
         let v = t.services[s];
         return settings_taken_up(taken_up(sum, t.count as u64), v);
     }
@@ -75,22 +89,22 @@ fn loads_of(lent: &[u8], ends: &[usize], tokens: &mut [u8; 65536], n: usize, tur
     sum
 }
 
-// The positions of n services: an n other than 2 and 8 counts as 32.
+// How many positions n services have: an n that is neither small nor middle counts as large.
 fn position_count(n: usize) -> usize {
-    if n == 2 {
-        return 4;
+    if n == SMALL {
+        return 2 * SMALL;
     }
-    if n == 8 { 16 } else { 64 }
+    if n == MIDDLE { 2 * MIDDLE } else { ENDS }
 }
 
 // The same with what standard input has.
 pub(crate) fn loads(n: usize, turns: usize) -> u64 {
-    let mut lent = [0u8; 32864];
+    let mut lent = [0u8; BOTH * LARGE];
     let got = io::read_full(0, &mut lent);
     let ends = positions();
     let mut tokens = [0u8; 65536];
     let count = position_count(n);
-    if count <= 64 {
+    if count <= ENDS {
         return loads_of(&lent[..got], &ends[0..count], &mut tokens, n, turns);
     }
     0

@@ -4,12 +4,17 @@ use crate::checksum::event_taken_up;
 use crate::checksum::query_taken_up;
 use crate::checksum::run_taken_up;
 use crate::checksum::state_taken_up;
+use crate::inputs::LARGE;
 use crate::inputs::UP_CLOCK;
 use crate::inputs::modulo;
 use crate::inputs::record_of;
 use crate::inputs::service_at;
+use service::MAX_SERVICES;
 use service::State;
 use service::Table;
+
+// The places that suffice for any run: four for each service.
+pub(crate) const PLACES: usize = 4 * MAX_SERVICES;
 
 // The events.
 pub(crate) enum Event {
@@ -89,12 +94,12 @@ pub(crate) fn queries(t: Table, mut x: State, n: usize, turns: usize) -> u64 {
 pub(crate) fn runs(
     t: Table,
     before: State,
-    services: &mut [u64; 128],
-    actions: &mut [u64; 128],
+    services: &mut [u64; PLACES],
+    actions: &mut [u64; PLACES],
     n: usize,
     turns: usize,
 ) -> u64 {
-    let s = n % 64;
+    let s = n % (2 * LARGE);
     let mut x = before;
     let mut sum: u64 = 0;
     let mut k: usize = 0;

@@ -5,12 +5,14 @@ mod inputs;
 mod loads;
 mod loops;
 
+use inputs::LARGE;
 use inputs::service_at;
 use inputs::state_up_to;
 use inputs::table_of;
 use libc::STDOUT_FILENO;
 use loads::loads;
 use loops::Event;
+use loops::PLACES;
 use loops::events;
 use loops::queries;
 use loops::requests;
@@ -20,6 +22,9 @@ use service::State;
 // The loops' names, each in 12 places.
 const NAMES: [u8; 120] =
     *b"next-quiet  next-launch start       stop        stop-all    end         clock       query       run         load        ";
+
+// How many bytes of an argument are read.
+const WORD: usize = 32;
 
 // The number with one decimal digit more.
 fn with_digit(number: usize, digit: u8) -> usize {
@@ -39,7 +44,7 @@ fn number_of(digits: &[u8]) -> usize {
 
 // Argument i as a number.
 fn number_argument(i: usize) -> usize {
-    let mut word = [0u8; 32];
+    let mut word = [0u8; WORD];
     let length = os::arg(i, &mut word);
     number_of(&word[..length])
 }
@@ -58,15 +63,15 @@ fn query_loop(n: usize, turns: usize) -> u64 {
 
 fn run_loop(n: usize, turns: usize) -> u64 {
     let t = table_of(n);
-    let y = engine::start(t, State::fresh(), service_at(31, n));
+    let y = engine::start(t, State::fresh(), service_at(LARGE - 1, n));
     let x = y.state;
-    let mut services = [0u64; 128];
-    let mut actions = [0u64; 128];
+    let mut services = [0u64; PLACES];
+    let mut actions = [0u64; PLACES];
     runs(t, x, &mut services, &mut actions, n, turns)
 }
 
 // The word begins as the name at a place does, up to the name's spaces.
-fn is_at(word: &[u8; 32], names: &[u8; 120], place: usize) -> bool {
+fn is_at(word: &[u8; WORD], names: &[u8; 120], place: usize) -> bool {
     let mut same = true;
     let mut i: usize = 0;
     while i < 12 {
@@ -77,7 +82,7 @@ fn is_at(word: &[u8; 32], names: &[u8; 120], place: usize) -> bool {
 }
 
 // The number of the loop that the word names, or 10 for none.
-fn loop_number(word: &[u8; 32]) -> usize {
+fn loop_number(word: &[u8; WORD]) -> usize {
     let names = NAMES;
     let mut k: usize = 0;
     while k < 10 {
@@ -106,7 +111,7 @@ fn turns_of(number: usize, n: usize, turns: usize) -> u64 {
 }
 
 fn main() {
-    let mut word = [b' '; 32];
+    let mut word = [b' '; WORD];
     os::arg(1, &mut word);
     let sum = turns_of(loop_number(&word), number_argument(2), number_argument(3));
     io::print_decimal(STDOUT_FILENO, sum);

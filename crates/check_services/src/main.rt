@@ -23,6 +23,9 @@ const KEPT_TEXT: usize = MAX_TEXT + 1;
 // Once so many bytes of text were read, more than the most that is allowed, no further file is opened.
 const ENOUGH_TEXT: usize = MAX_TEXTS + 1;
 
+// The room for all names that are kept, and for the texts: the last may be read when all but one of those bytes were.
+const ROOM: usize = KEPT_NAMES * KEPT_NAME + MAX_TEXTS + KEPT_TEXT;
+
 // What a read gave: where it ended, and whether it did not fail.
 struct Got {
     good: bool,
@@ -309,7 +312,7 @@ fn run(input: &mut [u8], buffer: &mut [u8], ends: &mut [usize], tokens: &mut [u8
 
 fn main() {
     let mut input = io::large_buffer();
-    let mut buffer = [0u8; 40960];
+    let mut buffer = [0u8; ROOM];
     let mut ends = [0usize; 2 * KEPT_NAMES];
     let mut tokens = io::large_buffer();
     run(&mut input, &mut buffer, &mut ends, &mut tokens);

@@ -143,9 +143,9 @@ module _ {t : Table} {x : State} {s a : List ℕ} {m : ℕ} where
 
 -- one turn of the loop: the passes have gathered st and f over the services of y, and c is what the code chose from them
 module _
-  {t : Table} {x : State} {s a : List ℕ} {m : ℕ} {s′ a′ : List ℕ} {y : State} {last : Action} {k : ℕ} {st : Standing} {f : Fits} {j : ℕ} {c : Choice}
-  (h : Running t x s a m s′ a′ y last k) (few : t .count ≤ maxServices) (g : Fitting t y st f j) (z : t .count ≤ j)
-  (e : c ≡ choiceFrom f (t .count)) where
+    {t : Table} {x : State} {s a : List ℕ} {m : ℕ} {s′ a′ : List ℕ} {y : State} {last : Action} {k : ℕ} {st : Standing} {f : Fits} {j : ℕ} {c : Choice}
+    (h : Running t x s a m s′ a′ y last k) (few : t .count ≤ maxServices) (g : Fitting t y st f j) (z : t .count ≤ j)
+    (e : c ≡ choiceFrom f (t .count)) where
   pub turn-inside : {i : Rule} {d : ℕ} → c ≡ Fit i d → d < maxServices
   turn-inside {i} {d} p = le-trans (chosen-below t y c (h .passed-list) (choice-made few g z e) i d p) few
 

@@ -7,6 +7,9 @@ use mathlib.Core.Path.{_≡_, refl}
 use mathlib.Core.List.{List, [], _∷_, map}
 use lib.ListN.{length, getD}
 use Rattle.base.specs.Folds.{every, first}
+use Rattle.service.specs.Numbers.{causeNumber, phaseNumber}
+use Rattle.service.specs.declared.Cause.the-variants.{Failed, Released}
+use Rattle.service.specs.declared.Phase.the-variants.{Ending, Starting}
 use Rattle.text.specs.Strings.{bytes, same}
 use Rattle.words.specs.Numbers.{withDigit, numberFrom, numberOf, numberTo}
 use Rattle.words.specs.Pieces.{piecesOf, placeOf}
@@ -42,6 +45,10 @@ examples =
     record { line = "run 256 4"; begun = true; loaded = true; is = asks 2 256 4 } ∷
     record { line = "run 257 4"; begun = true; loaded = true; is = bad } ∷
     record { line = "end 1 good"; begun = true; loaded = true; is = asks 6 1 1 } ∷
+    record { line = "set 3 phase starting"; begun = true; loaded = true; is = asks setRecord 3 (phaseNumber Starting) } ∷
+    record { line = "set 3 phase ending"; begun = true; loaded = true; is = asks setRecord 3 (phaseNumber Ending) } ∷
+    record { line = "set 3 cause released"; begun = true; loaded = true; is = asks (setRecord + 4) 3 (causeNumber Released) } ∷
+    record { line = "set 3 cause failed"; begun = true; loaded = true; is = asks (setRecord + 4) 3 (causeNumber Failed) } ∷
     record { line = "set 3 deadline none"; begun = true; loaded = true; is = asks (setRecord + 5) 3 0 } ∷
     record { line = "set 3 deadline 0070"; begun = true; loaded = true; is = asks (setRecord + 6) 3 70 } ∷
     record { line = "set 4096 deadline none"; begun = true; loaded = true; is = bad } ∷

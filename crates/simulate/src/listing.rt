@@ -8,7 +8,9 @@ use crate::output::put;
 use crate::output::put_bytes;
 use crate::output::put_hex_bytes;
 use encoding::EACH;
+use encoding::FRONT;
 use encoding::Numbers;
+use encoding::USED;
 use lent::name_at;
 use numbered::Counts;
 use replies::CLOCK_LINE;
@@ -57,7 +59,7 @@ pub(crate) fn put_services(
         if count <= s as u64 {
             break;
         }
-        let kind = number_at(table, 1 + EACH * s);
+        let kind = number_at(table, FRONT + EACH * s);
         to = put_service(out, to, s, name_at(lent, positions, s), kind);
         s += 1;
     }
@@ -85,7 +87,7 @@ fn put_all_settings(
         if count <= s as u64 {
             break;
         }
-        let settings = range(table, 1 + EACH * s, EACH);
+        let settings = range(table, FRONT + EACH * s, USED);
         to = put_settings(out, to, s, settings, range(counts, 2 * s, 2));
         s += 1;
     }
@@ -165,7 +167,7 @@ fn put_records(out: &mut Output, at: usize, state: &Numbers, count: u64) -> usiz
         if count <= s as u64 {
             break;
         }
-        to = put_record(out, to, s, range(state, 1 + EACH * s, EACH));
+        to = put_record(out, to, s, range(state, FRONT + EACH * s, USED));
         s += 1;
     }
     to

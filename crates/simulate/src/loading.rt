@@ -14,6 +14,8 @@ use numbered::Load;
 use numbered::load;
 use replies::load_reply;
 use scenario::Command;
+use service::Refusal;
+use service::refusal_number;
 use text::part;
 
 pub(crate) type TokenBuffer = [u8; 65536];
@@ -46,7 +48,7 @@ fn load_given(
     }
     // No line asks for more.
     Load {
-        number: 25,
+        number: refusal_number(Refusal::NoRoom),
         service: 0,
         line: 0,
         count: 0,

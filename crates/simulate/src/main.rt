@@ -8,11 +8,14 @@ mod writing;
 
 use calls::call_run;
 use calls::reply_to;
+use encoding::ALL;
 use encoding::Numbers;
 use filling::number_at;
 use given::Buffer;
 use given::Given;
+use given::POSITIONS;
 use given::Positions;
+use given::ROOM;
 use given::bare;
 use given::given_after;
 use libc::STDIN_FILENO;
@@ -21,6 +24,7 @@ use listing::put_table;
 use loading::Stand;
 use loading::TokenBuffer;
 use loading::load_line;
+use numbered::COUNTS;
 use numbered::Counts;
 use output::Output;
 use output::write_rest;
@@ -220,12 +224,12 @@ fn read_scenario(input: &mut [u8]) -> usize {
 
 // Plays a scenario, and answers the place in the output.
 fn play(scenario: &[u8], out: &mut Output) -> usize {
-    let mut buffer = [0u8; 136290];
-    let mut positions = [0usize; 136];
+    let mut buffer = [0u8; ROOM];
+    let mut positions = [0usize; POSITIONS];
     let mut tokens = io::large_buffer();
-    let mut table = [0u64; 385];
-    let mut state = [0u64; 385];
-    let mut counts = [0u64; 64];
+    let mut table = [0u64; ALL];
+    let mut state = [0u64; ALL];
+    let mut counts = [0u64; COUNTS];
     obey_all(
         scenario,
         &mut buffer,
@@ -239,7 +243,7 @@ fn play(scenario: &[u8], out: &mut Output) -> usize {
 }
 
 fn main() {
-    let mut input = [0u8; 262145];
+    let mut input = [0u8; MOST_BYTES + 1];
     let mut out = io::large_buffer();
     let n = read_scenario(&mut input);
     let at = play(part(&input, 0, n), &mut out);

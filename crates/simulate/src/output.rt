@@ -4,6 +4,9 @@ use text::part;
 
 pub(crate) type Output = [u8; 65536];
 
+// How many members a set can have: each is a bit.
+const SET_BITS: u64 = 64;
+
 // Puts a byte; where the buffer is full it is written out first.
 pub(crate) fn put(out: &mut Output, at: usize, byte: u8) -> usize {
     if at < out.len() {
@@ -65,7 +68,7 @@ pub(crate) fn put_set(out: &mut Output, at: usize, set: u64) -> usize {
     let mut to = at;
     let mut shifted = set;
     let mut member: u64 = 0;
-    while member < 64 {
+    while member < SET_BITS {
         to = put_member(out, to, member, shifted);
         shifted = shifted / 2;
         member += 1;

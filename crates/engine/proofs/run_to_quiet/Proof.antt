@@ -22,12 +22,15 @@ advance-requires c κs =
     let at-room = c .before .before in
     let at-test = at-room .before .before .before in
     let found = at-test .before .is-formed .ensures in
-    let few = formed-few _ _ _ found (at-test .if1 .taken) in
-    (sym found ∙ at-test .if1 .taken, few, record {
-      services = at-room .before .if2 .taken;
-      actions = at-room .if3 .taken;
-      few = omega (arith, few);
-    })
+    let few = formed-few _ _ _ found (at-test .if1 .taken) in (
+      sym found ∙ at-test .if1 .taken,
+      few,
+      record {
+        services = at-room .before .if2 .taken;
+        actions = at-room .if3 .taken;
+        few = omega (arith, few);
+      },
+    )
 
 -- the state has a record for each service that there may be
 sized : (c : tie.Start) → length (c .args .x .records) ≡ maxServices
@@ -40,30 +43,33 @@ returns c =
     let at-test = at-room .before .before .before in
     let found = at-test .before .is-formed .ensures in
     let passed = at-test .if1 .taken in
-    let ran = at-run .advance .ensures in
-    (run-done _ _ _ _ _ _ _ _ found passed _ ran refl (at-room .before .if2 .taken) (at-room .if3 .taken),
-    run-rested _ _ _ _ _ _ _ _ found passed _ ran refl (sized (at-test .before .before .before .before)))
+    let ran = at-run .advance .ensures in (
+      run-done _ _ _ _ _ _ _ _ found passed _ ran refl (at-room .before .if2 .taken) (at-room .if3 .taken),
+      run-rested _ _ _ _ _ _ _ _ found passed _ ran refl (sized (at-test .before .before .before .before)),
+    )
 
 returns-2 : tie.Need-returns-2
 unfolding outcome check
 returns-2 c =
     let at-room = c .before .before in
-    let at-test = at-room .before .before in
-    (simp (
-      c .refuse-run .ensures,
-      lt-leb _ _ (c .before .if3 .left),
-      le-leb _ _ (at-room .if2 .taken),
-      at-test .if1 .taken,
-      ← at-test .before .is-formed .ensures,
-    ),
-    rw (c .refuse-run .ensures))
+    let at-test = at-room .before .before in (
+      simp (
+        c .refuse-run .ensures,
+        lt-leb _ _ (c .before .if3 .left),
+        le-leb _ _ (at-room .if2 .taken),
+        at-test .if1 .taken,
+        ← at-test .before .is-formed .ensures,
+      ),
+      rw (c .refuse-run .ensures),
+    )
 
 returns-3 : tie.Need-returns-3
 unfolding outcome check
 returns-3 c =
-    let at-test = c .before .before .before in
-    (simp (c .refuse-run2 .ensures, lt-leb _ _ (c .before .if2 .left), at-test .if1 .taken, ← at-test .before .is-formed .ensures),
-    rw (c .refuse-run2 .ensures))
+    let at-test = c .before .before .before in (
+      simp (c .refuse-run2 .ensures, lt-leb _ _ (c .before .if2 .left), at-test .if1 .taken, ← at-test .before .is-formed .ensures),
+      rw (c .refuse-run2 .ensures),
+    )
 
 returns-4 : tie.Need-returns-4
 unfolding outcome check

@@ -7,10 +7,11 @@ use Rattle.numbered.proofs.load.Statement.{statement}
 use Rattle.numbered.proofs.load.Tie as tie
 
 returns : tie.Need-returns
-returns c = (
-  load-kept (c .before .before .before .before .before .before .load .ensures) (c .keep-loaded .ensures),
-  ap (λ (z : Outcome). z .buffer) (c .before .before .before .before .before .before .load .ensures),
-)
+returns c =
+    let at-load = c .before .before .before .before .before .before in (
+      load-kept (at-load .load .ensures) (c .keep-loaded .ensures),
+      ap (λ (z : Outcome). z .buffer) (at-load .load .ensures),
+    )
 
 pub load-spec : {M : Type 1} → statement M
 load-spec =

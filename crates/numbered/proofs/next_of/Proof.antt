@@ -6,10 +6,15 @@ use Rattle.numbered.proofs.next_of.Tie as tie
 
 returns : tie.Need-returns
 returns c =
-    acted-as (c .before .before .before .before .answer .given .1) (c .before .before .is-quiet .ensures) (c .before .action-service .ensures) (c .action-number .ensures)
+    let at-service = c .before in
+    let at-quiet = at-service .before in
+    let at-answer = at-quiet .before .before in
+    acted-as (at-answer .answer .given .1) (at-quiet .is-quiet .ensures) (at-service .action-service .ensures) (c .action-number .ensures)
 
 returns-2 : tie.Need-returns-2
-returns-2 c = rw (c .before .before .answer2 .given .1, c .refusal-number .ensures)
+returns-2 c =
+    let at-answer = c .before .before in
+    rw (at-answer .answer2 .given .1, c .refusal-number .ensures)
 
 pub next-of-spec : {M : Type 1} → statement M
 next-of-spec =

@@ -24,11 +24,16 @@ array-copy-out-put-counts : tie.Need-array-copy-out-put-counts Inv-loop μ-loop
 array-copy-out-put-counts c = search (needs, length-mapped)
 
 loop-again : tie.Need-loop-again Inv-loop μ-loop
-loop-again c = folded-more (c .before .before .before .before .loop .inv) (c .before .before .before .loop-test .taken) (c .put-counts .ensures)
+loop-again c =
+    let at-test = c .before .before .before in
+    let at-loop = at-test .before in
+    folded-more (at-loop .loop .inv) (at-test .loop-test .taken) (c .put-counts .ensures)
 
 returns : tie.Need-returns Inv-loop μ-loop
 unfolding countsOf
-returns c = folded-all (c .before .loop .inv) (c .loop-test .left)
+returns c =
+    let at-loop = c .before in
+    folded-all (at-loop .loop .inv) (c .loop-test .left)
 
 pub write-counts-spec : {M : Type 1} → statement M
 write-counts-spec =

@@ -1,14 +1,15 @@
 -- `put_services` is safe and ends: it counts up to the most services.
 use borrow.Author.Needs.{needs}
 use Prim.Native.Nat.{_-_, _≤_}
+use Rattle.service.specs.Limits.{maxServices}
 use Rattle.simulate.proofs.listing.put_services.Statement.{statement}
 use Rattle.simulate.proofs.listing.put_services.Tie as tie
 
 abbrev Inv-loop : tie.InvT-loop
-Inv-loop out₀ at table count lent positions to₀ s₀ out to s = s ≤ 32
+Inv-loop out₀ at table count lent positions to₀ s₀ out to s = s ≤ maxServices
 
 abbrev μ-loop : tie.MeasureT-loop
-μ-loop out₀ at table count lent positions to₀ s₀ out to s = 32 - s
+μ-loop out₀ at table count lent positions to₀ s₀ out to s = maxServices - s
 
 pub put-services-spec : {M : Type 1} → statement M
 put-services-spec =
