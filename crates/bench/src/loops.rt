@@ -16,6 +16,9 @@ use service::Table;
 // The places that suffice for any run: four for each service.
 pub(crate) const PLACES: usize = 4 * MAX_SERVICES;
 
+// The places among which is the one that the checksum takes up.
+const TAKEN_UP: usize = 2 * LARGE;
+
 // The events.
 pub(crate) enum Event {
     Start,
@@ -99,7 +102,7 @@ pub(crate) fn runs(
     n: usize,
     turns: usize,
 ) -> u64 {
-    let s = n % (2 * LARGE);
+    let s = n % TAKEN_UP;
     let mut x = before;
     let mut sum: u64 = 0;
     let mut k: usize = 0;
