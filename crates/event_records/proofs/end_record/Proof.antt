@@ -51,13 +51,25 @@ returns-5 : tie.Need-returns-5
 unfolding endedAs
 returns-5 c =
     let at-dead = c .before .before .before in
-    simp (c .fallen .ensures, c .before .enum-told4 .given .1, at-dead .dead-record .ensures, at-dead .before .if1 .taken, ← at-dead .before .before .is-sound .ensures)
+    simp (
+      c .fallen .ensures,
+      c .before .enum-told4 .given .1,
+      at-dead .dead-record .ensures,
+      at-dead .before .if1 .taken,
+      ← at-dead .before .before .is-sound .ensures,
+    )
 
 returns-6 : tie.Need-returns-6
 unfolding sound endedAs
 returns-6 c =
     let at-dead = c .before .before .before in
-    simp (c .settle .ensures, c .before .enum-told5 .given .1, at-dead .dead-record .ensures, at-dead .before .if1 .taken, ← at-dead .before .before .is-sound .ensures)
+    simp (
+      c .settle .ensures,
+      c .before .enum-told5 .given .1,
+      at-dead .dead-record .ensures,
+      at-dead .before .if1 .taken,
+      ← at-dead .before .before .is-sound .ensures,
+    )
 
 returns-7 : tie.Need-returns-7
 returns-7 c = simp (c .if1 .left, ← c .before .is-sound .ensures)

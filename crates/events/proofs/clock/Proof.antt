@@ -11,11 +11,21 @@ returns c = search clock-done
 
 returns-2 : tie.Need-returns-2
 unfolding outcome check
-returns-2 c = simp (c .refuse .ensures, lt-leb _ _ (c .before .if3 .left), le-leb _ _ (c .before .before .if2 .taken), c .before .before .before .before .if1 .taken, ← c .before .before .before .before .before .is-formed .ensures)
+returns-2 c =
+    let at-test = c .before .before .before .before in
+    simp (
+      c .refuse .ensures,
+      lt-leb _ _ (c .before .if3 .left),
+      le-leb _ _ (c .before .before .if2 .taken),
+      at-test .if1 .taken,
+      ← at-test .before .is-formed .ensures,
+    )
 
 returns-3 : tie.Need-returns-3
 unfolding outcome check
-returns-3 c = simp (c .refuse2 .ensures, lt-leb _ _ (c .before .if2 .left), c .before .before .before .if1 .taken, ← c .before .before .before .before .is-formed .ensures)
+returns-3 c =
+    let at-test = c .before .before .before in
+    simp (c .refuse2 .ensures, lt-leb _ _ (c .before .if2 .left), at-test .if1 .taken, ← at-test .before .is-formed .ensures)
 
 returns-4 : tie.Need-returns-4
 unfolding outcome check

@@ -1,12 +1,13 @@
 -- `start` meets its contract: the checks in order, then the services below i are changed.
 use borrow.Author.Needs.{needs}
-use Prim.Native.Nat.{_-_}
+use Prim.Native.Nat.{_-_, _≤_}
 use mathlib.Core.Bool.{_||_}
 use lib.Dec.{eqb}
 use borrow.Author.Tests.{le-ltb}
 use Rattle.base.specs.Sets.{hasBit}
 use Rattle.base.proofs.Tests.{not-true, not-false}
 use Rattle.base.proofs.Loops.{Folded, folded-none, folded-more, folded-all}
+use Rattle.service.specs.Limits.{maxServices}
 use Rattle.service.specs.Records.{recordAt, withRecord}
 use Rattle.rules.specs.Events.{each, startedAs}
 use Rattle.rules.specs.Calls.{check, outcome}
@@ -23,29 +24,27 @@ abbrev μ-loop : tie.MeasureT-loop
 
 returns : tie.Need-returns Inv-loop μ-loop
 unfolding outcome check
-returns c = simp (c .refuse .ensures, not-true (c .before .before .is-formed .result) .0 (c .before .if1 .taken), ← c .before .before .is-formed .ensures)
+returns c =
+    let at-test = c .before in
+    simp (c .refuse .ensures, not-true (at-test .before .is-formed .result) .0 (at-test .if1 .taken), ← at-test .before .is-formed .ensures)
 
 returns-2 : tie.Need-returns-2 Inv-loop μ-loop
 unfolding outcome check
-returns-2 c = simp (c .refuse2 .ensures, le-ltb _ _ (c .before .if2 .taken), not-false (c .before .before .before .before .is-formed .result) .0 (c .before .before .before .if1 .left), ← c .before .before .before .before .is-formed .ensures)
+returns-2 c =
+    let at-test = c .before .before .before in
+    simp (
+      c .refuse2 .ensures,
+      le-ltb _ _ (c .before .if2 .taken),
+      not-false (at-test .before .is-formed .result) .0 (at-test .if1 .left),
+      ← at-test .before .is-formed .ensures,
+    )
 
 loop-holds : tie.Need-loop-holds Inv-loop μ-loop
 loop-holds c = folded-none
 
-mul-r : tie.Need-mul-r Inv-loop μ-loop
-mul-r c = let h = formed-few _ _ _ (c .before .before .before .before .before .before .before .is-formed .ensures) (not-false _ .0 (c .before .before .before .before .before .before .if1 .left)) in search needs
-
-element-copy-out-r : tie.Need-element-copy-out-r Inv-loop μ-loop
-element-copy-out-r c = let h = formed-few _ _ _ (c .before .before .before .before .before .before .before .is-formed .ensures) (not-false _ .0 (c .before .before .before .before .before .before .if1 .left)) in search needs
-
-mul-q : tie.Need-mul-q Inv-loop μ-loop
-mul-q c = let h = formed-few _ _ _ (c .before .before .before .before .before .before .before .before .before .is-formed .ensures) (not-false _ .0 (c .before .before .before .before .before .before .before .before .if1 .left)) in search needs
-
-element-set-from-q : tie.Need-element-set-from-q Inv-loop μ-loop
-element-set-from-q c = let h = formed-few _ _ _ (c .before .before .before .before .before .before .before .before .before .is-formed .ensures) (not-false _ .0 (c .before .before .before .before .before .before .before .before .if1 .left)) in search needs
-
-add-i : tie.Need-add-i Inv-loop μ-loop
-add-i c = let h = formed-few _ _ _ (c .before .before .before .before .before .before .before .before .before .is-formed .ensures) (not-false _ .0 (c .before .before .before .before .before .before .before .before .if1 .left)) in search needs
+-- there is a place for each service
+few : (c : tie.Else1 Inv-loop μ-loop) → c .before .before .args .t .count ≤ maxServices
+few c = formed-few _ _ _ (c .before .is-formed .ensures) (not-false _ .0 (c .if1 .left))
 
 loop-again : tie.Need-loop-again Inv-loop μ-loop
 unfolding recordAt withRecord
@@ -53,7 +52,12 @@ loop-again c = folded-more (c .before .before .before .before .loop .inv) (c .be
 
 returns-3 : tie.Need-returns-3 Inv-loop μ-loop
 unfolding each
-returns-3 c = start-done _ _ _ _ _ _ _ (c .before .before .before .before .before .before .before .before .is-formed .ensures) (not-false _ .0 (c .before .before .before .before .before .before .before .if1 .left)) (c .before .before .before .before .before .if2 .left) (c .before .before .before .before .reach-set .ensures) (folded-all (c .before .before .before .loop .inv) (c .before .if3 .left)) (c .done .ensures)
+returns-3 c =
+    let at-loop = c .before .before .before in
+    let at-reach = at-loop .before in
+    let at-test = at-reach .before .before .before in
+    start-done _ _ _ _ _ _ _ (at-test .before .is-formed .ensures) (not-false _ .0 (at-test .if1 .left)) (at-reach .before .if2 .left)
+    (at-reach .reach-set .ensures) (folded-all (at-loop .loop .inv) (c .before .if3 .left)) (c .done .ensures)
 
 pub start-spec : {M : Type 1} → statement M
 start-spec =
@@ -68,12 +72,12 @@ start-spec =
     returns-2
     (λ c κs. search needs)
     loop-holds
-    mul-r
-    element-copy-out-r
+    (λ c. let h = few (c .before .before .before .before .before .before) in search needs)
+    (λ c. let h = few (c .before .before .before .before .before .before) in search needs)
     (λ c κs. search needs)
-    mul-q
-    element-set-from-q
-    add-i
+    (λ c. let h = few (c .before .before .before .before .before .before .before .before) in search needs)
+    (λ c. let h = few (c .before .before .before .before .before .before .before .before) in search needs)
+    (λ c. let h = few (c .before .before .before .before .before .before .before .before) in search needs)
     (λ c. search needs)
     loop-again
     (λ c κs. search needs)

@@ -8,12 +8,6 @@ use borrow.Author.Needs.{needs}
 use Rattle.events.proofs.stop.Statement.{statement}
 use Rattle.events.proofs.stop.Tie as tie
 
-mul-r : tie.Need-mul-r
-mul-r c = let h : c .before .before .before .args .t .count ≤ maxServices = search formed-few in search needs
-
-element-copy-out-r : tie.Need-element-copy-out-r
-element-copy-out-r c = let h : c .before .before .before .args .t .count ≤ maxServices = search formed-few in search needs
-
 returns : tie.Need-returns
 unfolding recordAt withRecord
 returns c = search stop-done
@@ -29,8 +23,8 @@ stop-spec =
     tie.close
     (tie.spec
     (λ c κs. search needs)
-    mul-r
-    element-copy-out-r
+    (λ c. let h : c .before .before .before .args .t .count ≤ maxServices = search formed-few in search needs)
+    (λ c. let h : c .before .before .before .args .t .count ≤ maxServices = search formed-few in search needs)
     (λ c κs. search needs)
     (λ c. let h : c .before .before .before .before .before .args .t .count ≤ maxServices = search formed-few in search needs)
     (λ c. let h : c .before .before .before .before .before .args .t .count ≤ maxServices = search formed-few in search needs)

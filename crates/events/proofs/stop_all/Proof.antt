@@ -1,9 +1,10 @@
 -- `stop_all` meets its contract: the check, then the services below k are changed.
 use borrow.Author.Needs.{needs}
-use Prim.Native.Nat.{_-_}
+use Prim.Native.Nat.{_-_, _≤_}
 use mathlib.Core.Path.{refl}
 use Rattle.base.proofs.Tests.{not-true, not-false}
 use Rattle.base.proofs.Loops.{Folded, folded-none, folded-more, folded-all}
+use Rattle.service.specs.Limits.{maxServices}
 use Rattle.service.specs.Records.{recordAt, withRecord}
 use Rattle.rules.specs.Events.{each, stopped}
 use Rattle.rules.specs.Calls.{check, outcome}
@@ -25,20 +26,9 @@ returns c = simp (not-true (c .before .is-formed .result) .0 (c .if1 .taken), �
 loop-holds : tie.Need-loop-holds Inv-loop μ-loop
 loop-holds c = folded-none
 
-mul-r : tie.Need-mul-r Inv-loop μ-loop
-mul-r c = let h = formed-few _ _ _ (c .before .before .before .before .is-formed .ensures) (not-false _ .0 (c .before .before .before .if1 .left)) in search needs
-
-element-copy-out-r : tie.Need-element-copy-out-r Inv-loop μ-loop
-element-copy-out-r c = let h = formed-few _ _ _ (c .before .before .before .before .is-formed .ensures) (not-false _ .0 (c .before .before .before .if1 .left)) in search needs
-
-mul-q : tie.Need-mul-q Inv-loop μ-loop
-mul-q c = let h = formed-few _ _ _ (c .before .before .before .before .before .before .is-formed .ensures) (not-false _ .0 (c .before .before .before .before .before .if1 .left)) in search needs
-
-element-set-from-q : tie.Need-element-set-from-q Inv-loop μ-loop
-element-set-from-q c = let h = formed-few _ _ _ (c .before .before .before .before .before .before .is-formed .ensures) (not-false _ .0 (c .before .before .before .before .before .if1 .left)) in search needs
-
-add-k : tie.Need-add-k Inv-loop μ-loop
-add-k c = let h = formed-few _ _ _ (c .before .before .before .before .before .before .is-formed .ensures) (not-false _ .0 (c .before .before .before .before .before .if1 .left)) in search needs
+-- there is a place for each service
+few : (c : tie.Else1 Inv-loop μ-loop) → c .before .before .args .t .count ≤ maxServices
+few c = formed-few _ _ _ (c .before .is-formed .ensures) (not-false _ .0 (c .if1 .left))
 
 loop-again : tie.Need-loop-again Inv-loop μ-loop
 unfolding recordAt withRecord
@@ -46,7 +36,10 @@ loop-again c = folded-more (c .before .before .before .before .loop .inv) (c .be
 
 returns-2 : tie.Need-returns-2 Inv-loop μ-loop
 unfolding each
-returns-2 c = stop-all-done _ _ _ _ _ (c .before .before .before .before .is-formed .ensures) (not-false _ .0 (c .before .before .before .if1 .left)) (folded-all (c .before .before .loop .inv) (c .if2 .left)) refl
+returns-2 c =
+    let at-test = c .before .before .before in
+    stop-all-done _ _ _ _ _ (at-test .before .is-formed .ensures) (not-false _ .0 (at-test .if1 .left))
+    (folded-all (c .before .before .loop .inv) (c .if2 .left)) refl
 
 pub stop-all-spec : {M : Type 1} → statement M
 stop-all-spec =
@@ -57,12 +50,12 @@ stop-all-spec =
     (λ c κs. search needs)
     returns
     loop-holds
-    mul-r
-    element-copy-out-r
+    (λ c. let h = few (c .before .before .before) in search needs)
+    (λ c. let h = few (c .before .before .before) in search needs)
     (λ c κs. search needs)
-    mul-q
-    element-set-from-q
-    add-k
+    (λ c. let h = few (c .before .before .before .before .before) in search needs)
+    (λ c. let h = few (c .before .before .before .before .before) in search needs)
+    (λ c. let h = few (c .before .before .before .before .before) in search needs)
     (λ c. search needs)
     loop-again
     returns-2)

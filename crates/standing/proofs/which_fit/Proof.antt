@@ -4,7 +4,20 @@ use Rattle.standing.proofs.which_fit.Statement.{statement}
 use Rattle.standing.proofs.which_fit.Tie as tie
 
 returns : tie.Need-returns
-returns c = rw (c .fits-expire .ensures, c .before .fits-end .ensures, c .before .before .fits-begin .ensures, c .before .before .before .fits-release .ensures, c .before .before .before .before .fits-wake .ensures, c .before .before .before .before .before .fits-settle .ensures, c .before .before .before .before .before .before .fits-abandon .ensures, c .before .before .before .before .before .before .before .fits-lose .ensures)
+returns c =
+    let at-begin = c .before .before in
+    let at-wake = at-begin .before .before in
+    let at-abandon = at-wake .before .before in
+    rw (
+      c .fits-expire .ensures,
+      c .before .fits-end .ensures,
+      at-begin .fits-begin .ensures,
+      at-begin .before .fits-release .ensures,
+      at-wake .fits-wake .ensures,
+      at-wake .before .fits-settle .ensures,
+      at-abandon .fits-abandon .ensures,
+      at-abandon .before .fits-lose .ensures,
+    )
 
 pub which-fit-spec : {M : Type 1} → statement M
 which-fit-spec =

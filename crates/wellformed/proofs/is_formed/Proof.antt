@@ -43,15 +43,19 @@ unfolding settingsAt recordAt
 loop2-again c = search every-more
 
 returns-2 : tie.Need-returns-2 Inv-loop μ-loop Inv-loop2 μ-loop2
-returns-2 c = formed-found
-    (c .before .before .before .before .before .before .args .t1)
-    (c .before .before .before .before .before .before .args .t2)
+returns-2 c =
+    let at-pass = c .before .before in
+    let at-rows = at-pass .before .before in
+    let at-start = at-rows .before .before in
+    formed-found
+    (at-start .args .t1)
+    (at-start .args .t2)
     _
-    (c .before .before .loop2 .ok)
+    (at-pass .loop2 .ok)
     (c .has-cycle .result)
-    (c .before .before .before .before .before .if1 .left)
-    (filling-all (c .before .before .before .before .loop .inv) (c .before .before .before .loop-test .left))
-    (every-all (c .before .before .loop2 .inv) (c .before .loop2-test .left))
+    (at-rows .before .if1 .left)
+    (filling-all (at-rows .loop .inv) (at-pass .before .loop-test .left))
+    (every-all (at-pass .loop2 .inv) (c .before .loop2-test .left))
     (c .has-cycle .ensures)
 
 pub is-formed-spec : {M : Type 1} → statement M
