@@ -107,8 +107,6 @@ fn record_from(numbers: &Numbers, at: usize) -> Record
     ensures { λ r. ⌜ r ≡ recordFrom (now (numbers .entry)) at ⌝ }
 {
     Record {
-        phase: phase_at(numbers[at]),
-        cause: cause_at(numbers[at + 4]),
         wanted: numbers[at + 1] == 1,
         aside: numbers[at + 2] == 1,
         live: numbers[at + 3] == 1,
@@ -117,6 +115,8 @@ fn record_from(numbers: &Numbers, at: usize) -> Record
         last_launch: numbers[at + 9],
         window_start: numbers[at + 10],
         restarts: numbers[at + 11],
+        phase: phase_at(numbers[at]),
+        cause: cause_at(numbers[at + 4]),
         deadline: deadline_of(numbers[at + 5], numbers[at + 6]),
     }
 }
@@ -205,10 +205,7 @@ fn settings_from(numbers: &Numbers, at: usize) -> Settings
     ensures { λ v. ⌜ v ≡ settingsFrom (now (numbers .entry)) at ⌝ }
 {
     Settings {
-        kind: kind_at(numbers[at]),
         restart: numbers[at + 1] == 1,
-        has_stop: numbers[at + 11] == 1,
-        signal: signal_at(numbers[at + 7]),
         delay: numbers[at + 2],
         interval: numbers[at + 3],
         limit: numbers[at + 4],
@@ -217,6 +214,9 @@ fn settings_from(numbers: &Numbers, at: usize) -> Settings
         hard: numbers[at + 8],
         milestone: numbers[at + 9],
         soft: numbers[at + 10],
+        has_stop: numbers[at + 11] == 1,
+        kind: kind_at(numbers[at]),
+        signal: signal_at(numbers[at + 7]),
     }
 }
 

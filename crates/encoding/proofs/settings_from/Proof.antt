@@ -1,4 +1,4 @@
--- `settings_from` meets its contract: field by field.
+-- `settings_from` meets its contract: field by field. Each line of needs is that of one number, or of one call.
 use borrow.Author.Needs.{needs}
 use Rattle.encoding.specs.Numbers.{settingsFrom}
 use Rattle.encoding.proofs.settings_from.Statement.{statement}
@@ -7,49 +7,25 @@ use Rattle.encoding.proofs.settings_from.Tie as tie
 returns : tie.Need-returns
 unfolding settingsFrom
 returns c =
-    let at-signal = c .before .before .before .before .before .before .before .before in
-    let at-kind = at-signal .before .before .before .before in
-    rw (at-signal .signal-at .ensures, at-kind .kind-at .ensures)
+    let at-kind = c .before .before in
+    rw (c .signal-at .ensures, at-kind .kind-at .ensures)
 
 pub settings-from-spec : {M : Type 1} → statement M
 settings-from-spec =
     tie.close
     (tie.spec
-    (λ c. search needs)
-    (λ c. search needs)
+    (λ c. search needs) (λ c. search needs) (λ c. search needs)
+    (λ c. search needs) (λ c. search needs) (λ c. search needs)
+    (λ c. search needs) (λ c. search needs) (λ c. search needs)
+    (λ c. search needs) (λ c. search needs) (λ c. search needs)
+    (λ c. search needs) (λ c. search needs) (λ c. search needs)
+    (λ c. search needs) (λ c. search needs) (λ c. search needs)
+    (λ c. search needs) (λ c. search needs) (λ c. search needs)
+    (λ c. search needs) (λ c. search needs) (λ c. search needs)
+    (λ c. search needs) (λ c. search needs) (λ c. search needs)
+    (λ c. search needs) (λ c. search needs) (λ c. search needs)
+    (λ c. search needs) (λ c. search needs)
     (λ c κs. search needs)
-    (λ c. search needs)
-    (λ c. search needs)
-    (λ c. search needs)
-    (λ c. search needs)
-    (λ c. search needs)
-    (λ c. search needs)
-    (λ c. search needs)
-    (λ c. search needs)
-    (λ c. search needs)
+    (λ c. search needs) (λ c. search needs) (λ c. search needs)
     (λ c κs. search needs)
-    (λ c. search needs)
-    (λ c. search needs)
-    (λ c. search needs)
-    (λ c. search needs)
-    (λ c. search needs)
-    (λ c. search needs)
-    (λ c. search needs)
-    (λ c. search needs)
-    (λ c. search needs)
-    (λ c. search needs)
-    (λ c. search needs)
-    (λ c. search needs)
-    (λ c. search needs)
-    (λ c. search needs)
-    (λ c. search needs)
-    (λ c. search needs)
-    (λ c. search needs)
-    (λ c. search needs)
-    (λ c. search needs)
-    (λ c. search needs)
-    (λ c. search needs)
-    (λ c. search needs)
-    (λ c. search needs)
-    (λ c. search needs)
     returns)

@@ -1,4 +1,4 @@
--- `is_settings` meets its contract: number by number.
+-- `is_settings` meets its contract: number by number. Each line of needs is that of one number, or of one call.
 use borrow.Author.Needs.{needs}
 use Rattle.encoding.specs.Meaning.{isSettings}
 use Rattle.encoding.proofs.meaning.is_settings.Statement.{statement}
@@ -12,16 +12,9 @@ pub is-settings-spec : {M : Type 1} → statement M
 is-settings-spec =
     tie.close
     (tie.spec
-    (λ c. search needs)
-    (λ c. search needs)
-    (λ c. search needs)
-    (λ c. search needs)
-    (λ c. search needs)
-    (λ c. search needs)
-    (λ c. search needs)
-    (λ c. search needs)
-    (λ c. search needs)
-    (λ c. search needs)
-    (λ c. search needs)
+    (λ c. search needs) (λ c. search needs)
+    (λ c. search needs) (λ c. search needs) (λ c. search needs)
+    (λ c. search needs) (λ c. search needs) (λ c. search needs)
+    (λ c. search needs) (λ c. search needs) (λ c. search needs)
     (λ c κs. search needs)
     returns)
