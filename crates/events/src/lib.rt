@@ -79,13 +79,11 @@ pub fn stop(t: Table, mut x: State, s: usize) -> Changed
             let r = x.records[s];
             let stopped = stop_record(r);
             x.records[s] = stopped;
-            done(x)
-        } else {
-            refuse(Refusal::NoService, x)
+            return done(x);
         }
-    } else {
-        refuse(Refusal::IllFormed, x)
+        return refuse(Refusal::NoService, x);
     }
+    refuse(Refusal::IllFormed, x)
 }
 
 // Stop for each. The answers are written out: `done` and `refuse` would cost the loop a copy of the state.

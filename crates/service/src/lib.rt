@@ -46,14 +46,15 @@ pub enum Kind {
     Internal,
 }
 
-// How a service is launched, and whether it has a live process while it is up.
+// How a service is launched, and whether it has a live process while it is up. The order is the one in which list 24 and the choice of a
+// rule take the fewest instructions.
 pub enum Form {
-    // no launch: up at once, never live
-    Bare,
     // launched into starting, not live while up
     Passing,
     // launched straight up, live while up
     Direct,
+    // no launch: up at once, never live
+    Bare,
     // launched into starting, live while up
     Delayed,
 }

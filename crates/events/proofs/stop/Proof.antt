@@ -8,15 +8,15 @@ use borrow.Author.Needs.{needs}
 use Rattle.events.proofs.stop.Statement.{statement}
 use Rattle.events.proofs.stop.Tie as tie
 
-returns : tie.Need-returns
-unfolding recordAt withRecord
-returns c = search stop-done
-
 returns-2 : tie.Need-returns-2
 returns-2 c = search (stop-done, stop-absent, stop-ill)
 
 returns-3 : tie.Need-returns-3
 returns-3 c = search (stop-done, stop-absent, stop-ill)
+
+returns : tie.Need-returns
+unfolding recordAt withRecord
+returns c = search stop-done
 
 pub stop-spec : {M : Type 1} → statement M
 stop-spec =
@@ -29,8 +29,8 @@ stop-spec =
     (λ c. let h : c .before .before .before .before .before .args .t .count ≤ maxServices = search formed-few in search needs)
     (λ c. let h : c .before .before .before .before .before .args .t .count ≤ maxServices = search formed-few in search needs)
     (λ c κs. search needs)
-    (λ c κs. search needs)
-    (λ c κs. search needs)
     returns
+    (λ c κs. search needs)
     returns-2
+    (λ c κs. search needs)
     returns-3)

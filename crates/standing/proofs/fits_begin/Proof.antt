@@ -4,7 +4,14 @@ use Rattle.standing.proofs.fits_begin.Statement.{statement}
 use Rattle.standing.proofs.fits_begin.Tie as tie
 
 returns : tie.Need-returns
-returns c = cc
+returns c =
+    let at-strong = c .before .before in
+    rw (
+      c .overlaps2 .ensures,
+      c .before .overlaps .ensures,
+      at-strong .strong-links .ensures,
+      at-strong .before .before .is-waiting .ensures,
+    )
 
 pub fits-begin-spec : {M : Type 1} → statement M
 fits-begin-spec =
