@@ -8,7 +8,8 @@ use lib.Dec.{eqb}
 use borrow.Author.Tests.{eqb-true}
 use Rattle.base.specs.Folds.{every}
 use Rattle.base.proofs.Below.{every-true}
-use Rattle.service.specs.Numbers.{causeAt, causeNumber, kindAt, kindNumber, lastCause, lastKind, lastPhase, lastSignal, phaseAt, phaseNumber, signalAt, signalNumber}
+use Rattle.service.specs.Numbers.{causeAt, causeNumber, kindAt, kindNumber, phaseAt, phaseNumber, signalAt, signalNumber}
+use Rattle.service.specs.Numbers.{lastCause, lastKind, lastPhase, lastSignal}
 use Rattle.service.specs.declared.Cause.{Cause}
 use Rattle.service.specs.declared.Cause.the-variants.{Failed, Fell, None as NoCause, Released, User}
 use Rattle.service.specs.declared.Kind.{Kind}
