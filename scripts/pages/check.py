@@ -70,7 +70,7 @@ WORDS = ['Call', 'afterCalls', 'freshState', 'accepted', 'Moment', 'Mark', 'stor
 
 # The wrong programs that paper 01 names. Any other edit may go together with its row; these may not.
 SHUT_OUT = ['loader/refuses_all', 'loader/one_fixed_table', 'engine/always_quiet', 'events/ignores_start', 'events/ignores_stop_all',
-            'events/ignores_clock', 'rule_records/shutdown_in_one_action', 'engine/run_invents_its_number', 'engine/run_writes_past_its_number',
+            'events/ignores_clock', 'engine/shutdown_in_one_action', 'engine/run_invents_its_number', 'engine/run_writes_past_its_number',
             'rules/launches_before_averager_ended', 'rules/ends_while_blocked', 'rules/deadline_before_launch', 'rules/settles_user_wanted',
             'rules/releases_before_waking', 'rules/begins_on_closing', 'events/ignores_stop', 'events/ignores_end', 'settling/restarts_after_stop',
             'record_tests/closing_is_serving', 'rule_records/start_timeout_from_before_launch']

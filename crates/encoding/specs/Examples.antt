@@ -2,7 +2,7 @@
 -- nothing.
 use Prim.Native.Nat.{_+_, _-_}
 use mathlib.Core.Bool.{true, false}
-use mathlib.Core.List.{_∷_}
+use mathlib.Core.List.{[], _∷_}
 use mathlib.Core.Path.{_≡_, refl}
 use lib.ListN.{replicate, set}
 use Rattle.base.specs.Folds.{every}
@@ -14,8 +14,8 @@ use Rattle.service.specs.declared.Cause.the-variants.{User}
 use Rattle.service.specs.declared.Deadline.the-variants.{At}
 use Rattle.service.specs.declared.Phase.the-variants.{Ending}
 use Rattle.service.specs.declared.Record.{Record}
-use Rattle.encoding.specs.Meaning.{isBlank, isRecord, isSettings, isState, isTable}
-use Rattle.encoding.specs.Numbers.{allNumbers, placeOf, recordFrom, recordNumbers, settingsFrom, settingsNumbers, stateOf, unused, used}
+use Rattle.encoding.specs.Meaning.{isRecord, isSettings, isState, isTable, standAs}
+use Rattle.encoding.specs.Numbers.{allNumbers, placeOf, recordFrom, recordNumbers, settingsFrom, settingsNumbers, stateOf}
 
 abbrev pub ended : Record
 ended = withCount 2 (withLaunch 40000 (withLive true (moved Ending User (At 150000) freshRecord)))
@@ -24,14 +24,14 @@ pub fresh-read : stateOf (replicate allNumbers 0) ≡ freshState
 unfolding stateOf recordFrom freshState
 fresh-read = refl
 
-pub ended-numbers : recordNumbers ended ≡ (4 ∷ 0 ∷ 0 ∷ 1 ∷ 1 ∷ 1 ∷ 150000 ∷ 0 ∷ 0 ∷ 40000 ∷ 0 ∷ 2 ∷ unused)
+pub ended-numbers : recordNumbers ended ≡ (4 ∷ 0 ∷ 0 ∷ 1 ∷ 1 ∷ 1 ∷ 150000 ∷ 0 ∷ 0 ∷ 40000 ∷ 0 ∷ 2 ∷ 0 ∷ 0 ∷ 0 ∷ 0 ∷ [])
 ended-numbers = refl
 
 pub ended-read : recordFrom (recordNumbers ended) 0 ≡ ended
 unfolding recordFrom
 ended-read = refl
 
-pub default-numbers : settingsNumbers defaultSettings ≡ (2 ∷ 0 ∷ 2000 ∷ 100000 ∷ 3 ∷ 600000 ∷ 100000 ∷ 3 ∷ 0 ∷ 0 ∷ 0 ∷ 0 ∷ unused)
+pub default-numbers : settingsNumbers defaultSettings ≡ (2 ∷ 0 ∷ 2000 ∷ 100000 ∷ 3 ∷ 600000 ∷ 100000 ∷ 3 ∷ 0 ∷ 0 ∷ 0 ∷ 0 ∷ 0 ∷ 0 ∷ 0 ∷ 0 ∷ [])
 default-numbers = refl
 
 pub default-read : settingsFrom (settingsNumbers defaultSettings) 0 ≡ defaultSettings
@@ -41,7 +41,7 @@ default-read = refl
 -- what is written stands for something, and the fresh state is all 0
 pub meant : (isRecord (recordNumbers ended) 0 ≡ true) × (isSettings (settingsNumbers defaultSettings) 0 ≡ true)
     × (isState (replicate allNumbers 0) ≡ true) × (isTable (replicate allNumbers 0) ≡ true)
-unfolding every isBlank isRecord isSettings isState isTable
+unfolding every standAs isRecord isSettings isState isTable recordFrom settingsFrom
 meant = (refl, refl, refl, refl)
 
 -- a phase, a cause, a type and a signal past the last, a flag of 2, a time with no deadline, a number where none is used
@@ -52,9 +52,9 @@ pub meant-nothing : (isRecord (set (recordNumbers ended) 0 (lastPhase + 1)) 0 �
     × (isRecord (set (recordNumbers ended) 3 2) 0 ≡ false)
     × (isRecord (set (recordNumbers ended) 5 2) 0 ≡ false)
     × (isRecord (set (recordNumbers ended) 5 0) 0 ≡ false)
-    × (isRecord (set (recordNumbers ended) used 1) 0 ≡ false)
+    × (isRecord (set (recordNumbers ended) 12 1) 0 ≡ false)
     × (isState (set (replicate allNumbers 0) (placeOf (maxServices - 1)) 77) ≡ false)
     × (isState (set (replicate allNumbers 0) 1 1) ≡ false)
     × (isTable (set (replicate allNumbers 0) 1 1) ≡ false)
-unfolding every isBlank isRecord isSettings isState isTable
+unfolding every standAs isRecord isSettings isState isTable recordFrom settingsFrom
 meant-nothing = (refl, refl, refl, refl, refl, refl, refl, refl, refl, refl, refl)

@@ -1,6 +1,6 @@
 -- A table and a state as numbers, and back: two in front, and then sixteen for each place.
-use Prim.Native.Nat.{ℕ, _+_, _*_, _-_}
-use mathlib.Core.List.{List, _∷_}
+use Prim.Native.Nat.{ℕ, _+_, _*_}
+use mathlib.Core.List.{List, [], _∷_}
 use lib.ListN.{getD, set, replicate}
 use Rattle.base.specs.Folds.{fold}
 use Rattle.service.specs.Limits.{maxServices}
@@ -20,12 +20,6 @@ inFront = 2
 -- each place has a record's numbers, or the settings' of a service, and else 0
 abbrev pub perPlace : ℕ
 perPlace = 16
-
-abbrev pub used : ℕ
-used = 12
-
-abbrev pub unused : List ℕ
-unused = replicate (perPlace - used) 0
 
 abbrev pub allNumbers : ℕ
 allNumbers = inFront + perPlace * maxServices
@@ -59,7 +53,11 @@ recordNumbers r =
     ∷ r .«last_launch»
     ∷ r .«window_start»
     ∷ r .restarts
-    ∷ unused
+    ∷ 0
+    ∷ 0
+    ∷ 0
+    ∷ 0
+    ∷ []
 
 unfoldable pub recordFrom : List ℕ → ℕ → Record
 recordFrom l a = record {
@@ -103,7 +101,11 @@ settingsNumbers v =
     ∷ v .milestone
     ∷ v .soft
     ∷ flagNumber (v .«has_stop»)
-    ∷ unused
+    ∷ 0
+    ∷ 0
+    ∷ 0
+    ∷ 0
+    ∷ []
 
 unfoldable pub settingsFrom : List ℕ → ℕ → Settings
 settingsFrom l a = record {

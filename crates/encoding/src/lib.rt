@@ -30,10 +30,8 @@ ghost use Rattle.encoding.specs.Numbers.{recordNumbers, recordFrom, stat
 // How many numbers stand before those of the places.
 pub const FRONT: usize = 2;
 
-// How many numbers each place has, and how many of these a record uses, or the settings of a service.
+// How many numbers each place has, for a record or for the settings of a service.
 pub const EACH: usize = 16;
-
-pub const USED: usize = 12;
 
 // How many numbers a state takes, and a table.
 pub const ALL: usize = FRONT + EACH * MAX_SERVICES;
@@ -75,7 +73,7 @@ fn deadline_of(n: u64, time: u64) -> Deadline
 
 // ---- the state
 
-fn record_numbers(r: Record) -> [u64; EACH]
+pub(crate) fn record_numbers(r: Record) -> [u64; EACH]
     ensures { λ l. ⌜ l ≡ recordNumbers r ⌝ }
 {
     let phase = r.phase;
@@ -102,7 +100,7 @@ fn record_numbers(r: Record) -> [u64; EACH]
 }
 
 // The record whose numbers begin at a place.
-fn record_from(numbers: &Numbers, at: usize) -> Record
+pub(crate) fn record_from(numbers: &Numbers, at: usize) -> Record
     requires { ⌜ at + perPlace ≤ allNumbers ⌝ }
     ensures { λ r. ⌜ r ≡ recordFrom (now (numbers .entry)) at ⌝ }
 {
@@ -174,7 +172,7 @@ pub fn read_state(numbers: &Numbers) -> State
 
 // ---- the table
 
-fn settings_numbers(v: Settings) -> [u64; EACH]
+pub(crate) fn settings_numbers(v: Settings) -> [u64; EACH]
     ensures { λ l. ⌜ l ≡ settingsNumbers v ⌝ }
 {
     let kind = v.kind;
@@ -200,7 +198,7 @@ fn settings_numbers(v: Settings) -> [u64; EACH]
 }
 
 // The settings whose numbers begin at a place.
-fn settings_from(numbers: &Numbers, at: usize) -> Settings
+pub(crate) fn settings_from(numbers: &Numbers, at: usize) -> Settings
     requires { ⌜ at + perPlace ≤ allNumbers ⌝ }
     ensures { λ v. ⌜ v ≡ settingsFrom (now (numbers .entry)) at ⌝ }
 {

@@ -1,42 +1,29 @@
-// Whether numbers stand for a table or a state: no type, signal, phase or cause is past the last of its list, each flag is 0 or 1, the time
-// of no deadline is 0, and so are the numbers that are not used.
+// Whether numbers stand for a table or a state: they do where they are what is written of the table or the state that they say.
 use crate::EACH;
 use crate::FRONT;
 use crate::Numbers;
-use crate::USED;
-use service::LAST_CAUSE;
-use service::LAST_KIND;
-use service::LAST_PHASE;
-use service::LAST_SIGNAL;
+use crate::record_from;
+use crate::record_numbers;
+use crate::settings_from;
+use crate::settings_numbers;
 use service::MAX_SERVICES;
 ghost use mathlib.Core.Path.{_≡_};
 ghost use Prim.Native.Nat.{_+_, _≤_};
 ghost use Rattle.encoding.specs.Numbers.{allNumbers, perPlace};
-ghost use Rattle.encoding.specs.Meaning.{isDeadline, isBlank, isRecord, isSettings, isState, isTable};
+ghost use Rattle.encoding.specs.Meaning.{standAs, isRecord, isSettings, isState, isTable};
 
-// The number of a flag that is set.
-const LAST_FLAG: u64 = 1;
-
-// Where there is no deadline its time is 0.
-fn is_deadline(n: u64, time: u64) -> bool
-    ensures { λ b. ⌜ b ≡ isDeadline n time ⌝ }
-{
-    (n <= LAST_FLAG) & ((n == LAST_FLAG) | (time == 0))
-}
-
-// The numbers that a place does not use are 0.
-fn is_blank(numbers: &Numbers, at: usize) -> bool
+// The numbers of a place, from there on, are these.
+fn stand_as(numbers: &Numbers, at: usize, line: [u64; EACH]) -> bool
     requires { ⌜ at + perPlace ≤ allNumbers ⌝ }
-    ensures { λ b. ⌜ b ≡ isBlank (now (numbers .entry)) at ⌝ }
+    ensures { λ b. ⌜ b ≡ standAs (now (numbers .entry)) at line ⌝ }
 {
-    let mut blank = true;
+    let mut same = true;
     let mut k: usize = 0;
-    while k < EACH - USED {
-        let n = numbers[at + (USED + k)];
-        blank = blank & (n == 0);
+    while k < EACH {
+        same = same & (numbers[at + k] == line[k]);
         k += 1;
     }
-    blank
+    same
 }
 
 // The numbers from a place on are those of a record.
@@ -44,14 +31,9 @@ fn is_record(numbers: &Numbers, at: usize) -> bool
     requires { ⌜ at + perPlace ≤ allNumbers ⌝ }
     ensures { λ b. ⌜ b ≡ isRecord (now (numbers .entry)) at ⌝ }
 {
-    (numbers[at] <= LAST_PHASE)
-        & (numbers[at + 1] <= LAST_FLAG)
-        & (numbers[at + 2] <= LAST_FLAG)
-        & (numbers[at + 3] <= LAST_FLAG)
-        & (numbers[at + 4] <= LAST_CAUSE)
-        & is_deadline(numbers[at + 5], numbers[at + 6])
-        & (numbers[at + 7] <= LAST_FLAG)
-        & is_blank(numbers, at)
+    let r = record_from(numbers, at);
+    let line = record_numbers(r);
+    stand_as(numbers, at, line)
 }
 
 // The numbers from a place on are those of settings.
@@ -59,11 +41,9 @@ fn is_settings(numbers: &Numbers, at: usize) -> bool
     requires { ⌜ at + perPlace ≤ allNumbers ⌝ }
     ensures { λ b. ⌜ b ≡ isSettings (now (numbers .entry)) at ⌝ }
 {
-    (numbers[at] <= LAST_KIND)
-        & (numbers[at + 1] <= LAST_FLAG)
-        & (numbers[at + 7] <= LAST_SIGNAL)
-        & (numbers[at + 11] <= LAST_FLAG)
-        & is_blank(numbers, at)
+    let v = settings_from(numbers, at);
+    let line = settings_numbers(v);
+    stand_as(numbers, at, line)
 }
 
 // The numbers stand for a state.

@@ -17,7 +17,7 @@ use Rattle.rules.specs.Events.{afterClock, afterStart, each, startReaches}
 use Rattle.rules.specs.Rules.{act, actOn, chosen, chosenFrom, due, fits, hands, leaves, lostToUser, nextAction}
 use Rattle.rules.specs.Runs.{earliest}
 use Rattle.rules.specs.WellFormed.{formed, shapedAt, stateFormed, tableFormed}
-use Rattle.encoding.specs.Meaning.{isBlank, isRecord, isSettings, isState, isTable}
+use Rattle.encoding.specs.Meaning.{isRecord, isSettings, isState, isTable, standAs}
 use Rattle.encoding.specs.Numbers.{allNumbers, perPlace, placeOf, recordFrom, settingsFrom, stateNumbers, stateOf, tableOf, unused, used}
 use Rattle.lent.specs.declared.Answer.the-variants.{Accepted, Refused}
 use Rattle.numbered.specs.Calls.{askedOf, callOf, nextOf, numbersAfter, on, refusalOf}
@@ -42,7 +42,7 @@ wanted = set fresh (placeOf 1 + 1) 1
 -- there is no service 2: the number of the refusal, and the numbers as they were
 pub start-refused : (refusalOf (on pairNumbers fresh (callOf (Start 2)) .answer) ≡ 20)
     × (numbersAfter fresh (on pairNumbers fresh (callOf (Start 2))) ≡ fresh)
-unfolding some every first hasBit within reach cyclic settingsAt recordAt withRecord hardLinks strongLinks allLinks hard strong soft depends blocked needed tableFormed shapedAt stateFormed formed each startReaches afterStart afterClock due fits lostToUser leaves hands chosenFrom chosen act actOn nextAction earliest check outcome stateNumbers stateOf recordFrom tableOf settingsFrom isBlank isRecord isSettings isState isTable
+unfolding some every first hasBit within reach cyclic settingsAt recordAt withRecord hardLinks strongLinks allLinks hard strong soft depends blocked needed tableFormed shapedAt stateFormed formed each startReaches afterStart afterClock due fits lostToUser leaves hands chosenFrom chosen act actOn nextAction earliest check outcome stateNumbers stateOf recordFrom tableOf settingsFrom standAs isRecord isSettings isState isTable
 start-refused = (refl, refl)
 
 -- "Start 1: moved 1", which is then waiting; its phase is its first number, and the clock the first of all
@@ -51,14 +51,14 @@ pub start-done : (refusalOf (on pairNumbers fresh (callOf (Start 1)) .answer) �
     × (nextOf (on pairNumbers wanted next .answer) ≡ record { refusal = 0; quiet = false; service = 1; action = 0 })
     × (numbersAfter wanted (on pairNumbers wanted next) ≡ set wanted (placeOf 1) 1)
     × (numbersAfter wanted (on pairNumbers wanted (callOf (Clock 50000))) ≡ set wanted 0 50000)
-unfolding some every first hasBit within reach cyclic settingsAt recordAt withRecord hardLinks strongLinks allLinks hard strong soft depends blocked needed tableFormed shapedAt stateFormed formed each startReaches afterStart afterClock due fits lostToUser leaves hands chosenFrom chosen act actOn nextAction earliest check outcome stateNumbers stateOf recordFrom tableOf settingsFrom isBlank isRecord isSettings isState isTable
+unfolding some every first hasBit within reach cyclic settingsAt recordAt withRecord hardLinks strongLinks allLinks hard strong soft depends blocked needed tableFormed shapedAt stateFormed formed each startReaches afterStart afterClock due fits lostToUser leaves hands chosenFrom chosen act actOn nextAction earliest check outcome stateNumbers stateOf recordFrom tableOf settingsFrom standAs isRecord isSettings isState isTable
 start-done = (refl, refl, refl, refl, refl)
 
 -- nothing is wanted: quiet, with no earliest time; and a table of more than the most services is refused
 pub quiet-told : (nextOf (on pairNumbers fresh next .answer) ≡ record { refusal = 0; quiet = true; service = 0; action = 0 })
     × (askedOf (on pairNumbers fresh query .answer) ≡ record { refusal = 0; timed = false; time = 0 })
     × (askedOf (on (set pairNumbers 0 (maxServices + 1)) fresh query .answer) ≡ record { refusal = 24; timed = false; time = 0 })
-unfolding some every first hasBit within reach cyclic settingsAt recordAt withRecord hardLinks strongLinks allLinks hard strong soft depends blocked needed tableFormed shapedAt stateFormed formed each startReaches afterStart afterClock due fits lostToUser leaves hands chosenFrom chosen act actOn nextAction earliest check outcome stateNumbers stateOf recordFrom tableOf settingsFrom isBlank isRecord isSettings isState isTable
+unfolding some every first hasBit within reach cyclic settingsAt recordAt withRecord hardLinks strongLinks allLinks hard strong soft depends blocked needed tableFormed shapedAt stateFormed formed each startReaches afterStart afterClock due fits lostToUser leaves hands chosenFrom chosen act actOn nextAction earliest check outcome stateNumbers stateOf recordFrom tableOf settingsFrom standAs isRecord isSettings isState isTable
 quiet-told = (refl, refl, refl)
 
 -- numbers that stand for nothing: a phase of 77, a flag of 2, a number where none is used, and a type past the last at the last place. The call
@@ -73,7 +73,7 @@ pub nothing-told : (refusalOf (on pairNumbers nowhere (callOf (Start 1)) .answer
     × (askedOf (on pairNumbers (set fresh (placeOf 0 + used) 1) query .answer) ≡ record { refusal = 24; timed = false; time = 0 })
     × (askedOf (on (set pairNumbers (placeOf (maxServices - 1)) 3) fresh query .answer) ≡ record { refusal = 24; timed = false; time = 0 })
     × (on pairNumbers nowhere (run (7 ∷ []) (9 ∷ [])) .services ≡ (7 ∷ []))
-unfolding every check isBlank isRecord isSettings isState isTable
+unfolding every check standAs recordFrom settingsFrom isRecord isSettings isState isTable
 nothing-told = (refl, refl, refl, refl, refl, refl, refl)
 
 -- a load's answers, and the counts of service 1: three tokens for its command, two for its stop-command

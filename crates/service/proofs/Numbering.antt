@@ -1,13 +1,7 @@
--- Numbers and back: what is read of an enum's number is what it was, and no number is past the list's last; and a number that is not past
--- the last is that of what is read of it.
-use Prim.Native.Nat.{ℕ, suc, _≤_, suc-le-suc}
-use mathlib.Core.Bool.{true}
+-- Numbers and back: what is read of an enum's number is what it was, and no number is past the list's last.
+use Prim.Native.Nat.{_≤_}
 use mathlib.Core.Path.{_≡_, refl}
 use native.Mathlib.Omega.{arith}
-use lib.Dec.{eqb}
-use borrow.Author.Tests.{eqb-true}
-use Rattle.base.specs.Folds.{every}
-use Rattle.base.proofs.Below.{every-true}
 use Rattle.service.specs.Numbers.{causeAt, causeNumber, kindAt, kindNumber, phaseAt, phaseNumber, signalAt, signalNumber}
 use Rattle.service.specs.Numbers.{lastCause, lastKind, lastPhase, lastSignal}
 use Rattle.service.specs.declared.Cause.{Cause}
@@ -47,23 +41,3 @@ cause-back User = (refl, omega arith)
 cause-back Released = (refl, omega arith)
 cause-back Fell = (refl, omega arith)
 cause-back Failed = (refl, omega arith)
-
--- a function that gives back each number up to the last
-pub gives-back : (f : ℕ → ℕ) (last : ℕ) → every (λ i. eqb (f i) i) (suc last) ≡ true → (n : ℕ) → n ≤ last → f n ≡ n
-gives-back f last e n l = eqb-true (f n) n (every-true (λ i. eqb (f i) i) (suc last) .0 e n (suc-le-suc l))
-
-pub kind-there : (n : ℕ) → n ≤ lastKind → kindNumber (kindAt n) ≡ n
-unfolding every
-kind-there = gives-back (λ n. kindNumber (kindAt n)) lastKind refl
-
-pub signal-there : (n : ℕ) → n ≤ lastSignal → signalNumber (signalAt n) ≡ n
-unfolding every
-signal-there = gives-back (λ n. signalNumber (signalAt n)) lastSignal refl
-
-pub phase-there : (n : ℕ) → n ≤ lastPhase → phaseNumber (phaseAt n) ≡ n
-unfolding every
-phase-there = gives-back (λ n. phaseNumber (phaseAt n)) lastPhase refl
-
-pub cause-there : (n : ℕ) → n ≤ lastCause → causeNumber (causeAt n) ≡ n
-unfolding every
-cause-there = gives-back (λ n. causeNumber (causeAt n)) lastCause refl

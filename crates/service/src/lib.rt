@@ -1,9 +1,6 @@
 // What a service is: its settings and the table of all services, its record and the state, the actions and the answers; each enum's numbers.
 mod numbers;
 
-pub use numbers::LAST_CAUSE;
-pub use numbers::LAST_KIND;
-pub use numbers::LAST_PHASE;
 pub use numbers::LAST_SIGNAL;
 pub use numbers::action_number;
 pub use numbers::action_service;

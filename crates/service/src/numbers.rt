@@ -11,9 +11,6 @@ ghost use Rattle.service.specs.Numbers.{kindNumber, kindAt, signalNumber
 ghost use Rattle.service.specs.Numbers.{phaseNumber, phaseAt, causeNumber, causeAt};
 ghost use Rattle.service.specs.Numbers.{isQuiet, actionService, actionNumber, refusalNumber};
 
-// The number of the last of the types.
-pub const LAST_KIND: u64 = 2;
-
 pub fn kind_number(k: Kind) -> u64
     ensures { λ n. ⌜ n ≡ kindNumber k ⌝ }
 {
@@ -67,9 +64,6 @@ pub fn signal_at(n: u64) -> Signal
     }
 }
 
-// The number of the last of the phases.
-pub const LAST_PHASE: u64 = 4;
-
 pub fn phase_number(p: Phase) -> u64
     ensures { λ n. ⌜ n ≡ phaseNumber p ⌝ }
 {
@@ -93,9 +87,6 @@ pub fn phase_at(n: u64) -> Phase
         _ => Phase::Ending,
     }
 }
-
-// The number of the last of the causes.
-pub const LAST_CAUSE: u64 = 4;
 
 pub fn cause_number(c: Cause) -> u64
     ensures { λ n. ⌜ n ≡ causeNumber c ⌝ }

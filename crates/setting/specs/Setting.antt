@@ -6,12 +6,12 @@ use lib.Dec.{eqb, leb, ltb}
 use lib.ListN.{set}
 use Rattle.base.specs.Folds.{pick}
 use Rattle.service.specs.Limits.{maxServices}
-use Rattle.encoding.specs.Numbers.{placeOf, used}
+use Rattle.encoding.specs.Numbers.{perPlace, placeOf}
 use Rattle.scenario.specs.Lines.{setClock, setCount, setRecord, setRecordLast, setTable, setTableLast}
 
--- the number of service s at this place among those that are used is n
+-- the number of service s at this place among its numbers is n
 unfoldable pub numberSet : List ℕ → ℕ → ℕ → ℕ → List ℕ
-numberSet l s place n = pick (ltb s maxServices && ltb place used) (set l (placeOf s + place) n) l
+numberSet l s place n = pick (ltb s maxServices && ltb place perPlace) (set l (placeOf s + place) n) l
 
 -- a record's places of whether it has a deadline, and of the deadline's time
 abbrev pub timedPlace : ℕ

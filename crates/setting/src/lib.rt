@@ -2,7 +2,6 @@
 use encoding::EACH;
 use encoding::FRONT;
 use encoding::Numbers;
-use encoding::USED;
 use scenario::Command;
 use scenario::SET_CLOCK;
 use scenario::SET_COUNT;
@@ -35,7 +34,7 @@ fn set_number(numbers: &mut Numbers, s: u64, place: usize, n: u64)
     ensures { λ _. ⌜ now (numbers .exit) ≡ numberSet (now (numbers .entry)) s place n ⌝ }
 {
     if s < MAX_SERVICES as u64 {
-        if place < USED {
+        if place < EACH {
             numbers[FRONT + EACH * s as usize + place] = n;
         }
     }

@@ -1,4 +1,4 @@
--- What list 24 says of the times of one service: under it no sum of settling or of a deadline passes 64 bits.
+-- What list 24 says of the clock, and of the settings and times of one service: under it no sum of settling or of a deadline passes 64 bits.
 use Prim.Native.Nat.{ℕ, _≤_}
 use mathlib.Core.Bool.{Bool, _&&_}
 use lib.Dec.{leb}

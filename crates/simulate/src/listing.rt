@@ -10,7 +10,6 @@ use crate::output::put_hex_bytes;
 use encoding::EACH;
 use encoding::FRONT;
 use encoding::Numbers;
-use encoding::USED;
 use lent::name_at;
 use numbered::Counts;
 use replies::CLOCK_LINE;
@@ -87,7 +86,7 @@ fn put_all_settings(
         if count <= s as u64 {
             break;
         }
-        let settings = range(table, FRONT + EACH * s, USED);
+        let settings = range(table, FRONT + EACH * s, EACH);
         to = put_settings(out, to, s, settings, range(counts, 2 * s, 2));
         s += 1;
     }
@@ -167,7 +166,7 @@ fn put_records(out: &mut Output, at: usize, state: &Numbers, count: u64) -> usiz
         if count <= s as u64 {
             break;
         }
-        to = put_record(out, to, s, range(state, FRONT + EACH * s, USED));
+        to = put_record(out, to, s, range(state, FRONT + EACH * s, EACH));
         s += 1;
     }
     to

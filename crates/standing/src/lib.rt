@@ -38,7 +38,7 @@ pub struct Standing {
     pub unready: u64,
     // services with a hard dependent that is starting, up or ending
     pub blocked: u64,
-    // services with a dependent that is not down
+    // services with a dependent that is not down: the rules' needed, but for what is wanted itself
     pub needed: u64,
     // services with a dependent that is waiting
     pub called: u64,

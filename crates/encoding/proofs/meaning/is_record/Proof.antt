@@ -1,4 +1,4 @@
--- `is_record` meets its contract: number by number. Each line of needs is that of one number, or of one call.
+-- `is_record` meets its contract: the numbers are held against those that are written of what they say.
 use borrow.Author.Needs.{needs}
 use Rattle.encoding.specs.Meaning.{isRecord}
 use Rattle.encoding.proofs.meaning.is_record.Statement.{statement}
@@ -6,22 +6,7 @@ use Rattle.encoding.proofs.meaning.is_record.Tie as tie
 
 returns : tie.Need-returns
 unfolding isRecord
-returns c =
-    let at-deadline = c .before .before in
-    rw (c .is-blank .ensures, at-deadline .is-deadline .ensures)
+returns c = rw (c .stand-as .ensures, c .before .record-numbers .ensures, c .before .before .record-from .ensures)
 
 pub is-record-spec : {M : Type 1} → statement M
-is-record-spec =
-    tie.close
-    (tie.spec
-    (λ c. search needs) (λ c. search needs)
-    (λ c. search needs) (λ c. search needs) (λ c. search needs)
-    (λ c. search needs) (λ c. search needs) (λ c. search needs)
-    (λ c. search needs) (λ c. search needs) (λ c. search needs)
-    (λ c. search needs) (λ c. search needs) (λ c. search needs)
-    (λ c. search needs) (λ c. search needs) (λ c. search needs)
-    (λ c. search needs) (λ c. search needs) (λ c. search needs)
-    (λ c κs. search needs)
-    (λ c. search needs) (λ c. search needs) (λ c. search needs)
-    (λ c κs. search needs)
-    returns)
+is-record-spec = tie.close (tie.spec (λ c κs. search needs) (λ c κs. search needs) (λ c κs. search needs) returns)

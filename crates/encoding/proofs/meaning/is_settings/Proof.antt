@@ -1,4 +1,4 @@
--- `is_settings` meets its contract: number by number. Each line of needs is that of one number, or of one call.
+-- `is_settings` meets its contract: the numbers are held against those that are written of what they say.
 use borrow.Author.Needs.{needs}
 use Rattle.encoding.specs.Meaning.{isSettings}
 use Rattle.encoding.proofs.meaning.is_settings.Statement.{statement}
@@ -6,15 +6,7 @@ use Rattle.encoding.proofs.meaning.is_settings.Tie as tie
 
 returns : tie.Need-returns
 unfolding isSettings
-returns c = rw (c .is-blank .ensures)
+returns c = rw (c .stand-as .ensures, c .before .settings-numbers .ensures, c .before .before .settings-from .ensures)
 
 pub is-settings-spec : {M : Type 1} → statement M
-is-settings-spec =
-    tie.close
-    (tie.spec
-    (λ c. search needs) (λ c. search needs)
-    (λ c. search needs) (λ c. search needs) (λ c. search needs)
-    (λ c. search needs) (λ c. search needs) (λ c. search needs)
-    (λ c. search needs) (λ c. search needs) (λ c. search needs)
-    (λ c κs. search needs)
-    returns)
+is-settings-spec = tie.close (tie.spec (λ c κs. search needs) (λ c κs. search needs) (λ c κs. search needs) returns)
