@@ -17,7 +17,7 @@ SIGNATURE = re.compile(r'(?m)^\s*' + WORDS + '(' + NAME + '(?: ' + NAME + ')*) :
 DEFINED = re.compile(r'(?m)^' + WORDS + '(?:(?:data|record) (' + NAME + ')|(' + NAME + ') : )')
 PART = re.compile(r'(?m)^  (?:pub )?(' + NAME + '(?: ' + NAME + ')*) : ')
 IMPORTED = re.compile(r'(?m)^use Rattle·(\w+?)(?:·specs\.specs|\.specs)\.(?!declared)(\w+)\.\{([^}]*)\}')
-FUNCTION = re.compile(r'(?m)^[ \t]*(pub )?(?:extern "C" )?fn (\w+)')
+FUNCTION = re.compile(r'(?m)^[ \t]*(pub )?(?:pub\(crate\) )?(?:extern "C" )?fn (\w+)')
 
 
 @functools.lru_cache(maxsize=None)

@@ -15,7 +15,7 @@ use Rattle.service.specs.declared.Deadline.the-variants.{At}
 use Rattle.service.specs.declared.Phase.the-variants.{Ending}
 use Rattle.service.specs.declared.Record.{Record}
 use Rattle.encoding.specs.Meaning.{isRecord, isSettings, isState, isTable, standAs}
-use Rattle.encoding.specs.Numbers.{allNumbers, placeOf, recordFrom, recordNumbers, settingsFrom, settingsNumbers, stateOf}
+use Rattle.encoding.specs.Numbers.{allNumbers, perPlace, placeOf, recordFrom, recordNumbers, settingsFrom, settingsNumbers, stateOf}
 
 abbrev pub ended : Record
 ended = withCount 2 (withLaunch 40000 (withLive true (moved Ending User (At 150000) freshRecord)))
@@ -52,7 +52,7 @@ pub meant-nothing : (isRecord (set (recordNumbers ended) 0 (lastPhase + 1)) 0 �
     × (isRecord (set (recordNumbers ended) 3 2) 0 ≡ false)
     × (isRecord (set (recordNumbers ended) 5 2) 0 ≡ false)
     × (isRecord (set (recordNumbers ended) 5 0) 0 ≡ false)
-    × (isRecord (set (recordNumbers ended) 12 1) 0 ≡ false)
+    × (isRecord (set (recordNumbers ended) (perPlace - 1) 1) 0 ≡ false)
     × (isState (set (replicate allNumbers 0) (placeOf (maxServices - 1)) 77) ≡ false)
     × (isState (set (replicate allNumbers 0) 1 1) ≡ false)
     × (isTable (set (replicate allNumbers 0) 1 1) ≡ false)

@@ -18,7 +18,7 @@ use Rattle.rules.specs.Rules.{act, actOn, chosen, chosenFrom, due, fits, hands,
 use Rattle.rules.specs.Runs.{earliest}
 use Rattle.rules.specs.WellFormed.{formed, shapedAt, stateFormed, tableFormed}
 use Rattle.encoding.specs.Meaning.{isRecord, isSettings, isState, isTable, standAs}
-use Rattle.encoding.specs.Numbers.{allNumbers, perPlace, placeOf, recordFrom, settingsFrom, stateNumbers, stateOf, tableOf, unused, used}
+use Rattle.encoding.specs.Numbers.{allNumbers, perPlace, placeOf, recordFrom, settingsFrom, stateNumbers, stateOf, tableOf}
 use Rattle.lent.specs.declared.Answer.the-variants.{Accepted, Refused}
 use Rattle.numbered.specs.Calls.{askedOf, callOf, nextOf, numbersAfter, on, refusalOf}
 use Rattle.numbered.specs.Loads.{counted, loadOf}
@@ -30,7 +30,7 @@ fresh = replicate allNumbers 0
 
 -- "0 reader, process; 1 averager, process, hard on 0; both restart"
 abbrev processNumbers : ℕ → List ℕ
-processNumbers hard = 0 ∷ 1 ∷ 2000 ∷ 100000 ∷ 3 ∷ 600000 ∷ 100000 ∷ 3 ∷ hard ∷ 0 ∷ 0 ∷ 0 ∷ unused
+processNumbers hard = 0 ∷ 1 ∷ 2000 ∷ 100000 ∷ 3 ∷ 600000 ∷ 100000 ∷ 3 ∷ hard ∷ 0 ∷ 0 ∷ 0 ∷ 0 ∷ 0 ∷ 0 ∷ 0 ∷ []
 
 abbrev pairNumbers : List ℕ
 pairNumbers = 2 ∷ 0 ∷ (processNumbers 0 ++ processNumbers 1 ++ replicate (perPlace * (maxServices - 2)) 0)
@@ -70,7 +70,7 @@ pub nothing-told : (refusalOf (on pairNumbers nowhere (callOf (Start 1)) .answer
     × (numbersAfter nowhere (on pairNumbers nowhere (callOf (Start 1))) ≡ nowhere)
     × (refusalOf (on pairNumbers nowhere (callOf (Start 2)) .answer) ≡ 24)
     × (nextOf (on pairNumbers (set fresh (placeOf 0 + 1) 2) next .answer) ≡ record { refusal = 24; quiet = false; service = 0; action = 0 })
-    × (askedOf (on pairNumbers (set fresh (placeOf 0 + used) 1) query .answer) ≡ record { refusal = 24; timed = false; time = 0 })
+    × (askedOf (on pairNumbers (set fresh (placeOf 0 + (perPlace - 1)) 1) query .answer) ≡ record { refusal = 24; timed = false; time = 0 })
     × (askedOf (on (set pairNumbers (placeOf (maxServices - 1)) 3) fresh query .answer) ≡ record { refusal = 24; timed = false; time = 0 })
     × (on pairNumbers nowhere (run (7 ∷ []) (9 ∷ [])) .services ≡ (7 ∷ []))
 unfolding every check standAs recordFrom settingsFrom isRecord isSettings isState isTable
