@@ -61,6 +61,9 @@ STATEMENT = 'crates/rules/specs/Demand.antt'
 STATEMENTS = ['Holds', 'Demand3', 'RestsEverywhere', 'AlwaysFormed']
 RESTS_ON = '-- ---- WHAT THE STATEMENT RESTS ON'
 
+# The file of the load.
+LOADING = 'crates/loader/specs/Load.antt'
+
 # The words of the demands whose definitions must stand on the auditor's page.
 WORDS = ['Call', 'afterCalls', 'freshState', 'accepted', 'Moment', 'Mark', 'story', 'ActsOn', 'recorded', 'fed', 'Path', 'hardLinks', 'Clear', 'Each',
          'Rests',
@@ -213,7 +216,8 @@ class Check:
                     self.fault(AUDIT, f'nothing is said of {file}, on which {start} rests')
 
     def rests_on(self):
-        """The list at the end of the statement's file has every definition that the statement comes down to, and no other."""
+        """The list at the end of the statement's file has every definition that the statement comes down to, and no other; the auditor's page has
+        every one that the load comes down to."""
         text = self.tree.text(STATEMENT)
         listed, file = set(), None
         for line in text[text.rfind(RESTS_ON):].split('\n'):
@@ -225,6 +229,9 @@ class Check:
             self.fault(STATEMENT, f'its list leaves out {name} of {file}')
         for file, name in listed - self.tree.comes_down_to(STATEMENT, STATEMENTS):
             self.fault(STATEMENT, f'its list has {name} of {file}, which the statement does not rest on')
+        told = {(file, name) for row in rows(self.whole[AUDIT]) for file in files_in(row) for name in quoted(row)}
+        for file, name in self.tree.comes_down_to(LOADING, ['load']) - told:
+            self.fault(AUDIT, f'it leaves out {name} of {file}, which the load rests on')
 
     def edits(self):
         """The must-fail edits of the tree and those of the page are the same, each with its path in one row."""

@@ -68,6 +68,7 @@ DAMAGES = [
     ('another part is', 'pub live', {f'{RULES}/specs/Demand.antt': without_line('pub live : (s : ℕ)')}),
     ('the list of what it rests on leaves one out', 'noSettings', {f'{RULES}/specs/Demand.antt': swap('linksOf, noSettings, settingsAt', 'linksOf, settingsAt')}),
     ('the list has one too many', 'earliest', {f'{RULES}/specs/Calls.antt': swap('(told (earliest t x))', '(told NoDeadline)')}),
+    ('the page leaves out one that the load rests on', 'needsCommand', {AUDIT: swap(', `needsCommand`', '')}),
     ('a contract cites another definition', 'stop_all', {'crates/events/src/lib.rt': swap('outcome t x stopAll', 'outcome t x nextCall')}),
     ('a statement is renamed', 'always-safe', {f'{RULES}/proofs/Safety.antt': rename('always-safe', 'mostly-safe')}),
     ('a statement of cases is renamed', 'readings-hold', {f'{RULES}/specs/Readings.antt': rename('readings-hold', 'readings-pass')}),
