@@ -4,7 +4,7 @@ use crate::inputs::LARGE;
 use crate::inputs::MIDDLE;
 use crate::inputs::SMALL;
 use crate::inputs::modulo;
-use lent::Answer;
+use load_lent::Answer;
 use loader::Loaded;
 use loader::load;
 use service::MAX_SERVICES;

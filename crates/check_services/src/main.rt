@@ -1,15 +1,15 @@
 // Reads names from standard input, loads the files of these names in the current folder, and writes what was loaded, or the refusal.
-use lent::Answer;
-use lent::MAX_TEXT;
-use lent::MAX_TEXTS;
-use lent::name_at;
+use load_lent::Answer;
+use load_lent::MAX_TEXT;
+use load_lent::MAX_TEXTS;
+use load_lent::name_at;
 use libc::STDIN_FILENO;
 use libc::STDOUT_FILENO;
 use loader::Loaded;
 use service::Kind;
 use service::MAX_SERVICES;
 use service::Table;
-use word::LONGEST_NAME;
+use load_word::LONGEST_NAME;
 ghost use Prim.Native.Nat.{_≤_};
 ghost use lib.ListN.{length};
 
@@ -108,9 +108,9 @@ fn read_text(name: &[u8], left: usize, buffer: &mut [u8], at: usize) -> Got {
 fn kept_name(names: &[u8], at: usize, end: usize) -> &[u8] {
     if at <= end {
         let n = least(end - at, KEPT_NAME);
-        return text::part(names, at, at + n);
+        return load_text::part(names, at, at + n);
     }
-    text::part(names, 0, 0)
+    load_text::part(names, 0, 0)
 }
 
 // Puts a byte at a place of the buffer, and answers the place after it; past the end it does nothing.
@@ -170,7 +170,7 @@ fn fill(names: &[u8], text_bytes: usize, buffer: &mut [u8], ends: &mut [usize]) 
     };
     let mut at: usize = 0;
     while at < names.len() {
-        let end = text::line_end(names, at);
+        let end = load_text::line_end(names, at);
         let added = add(kept_name(names, at, end), lent, buffer, ends);
         let Filled::Whole(more) = added else {
             return added;
@@ -195,7 +195,7 @@ fn first_ends(ends: &[usize], n: usize) -> &[usize] {
 fn load_lent(lent: Lent, buffer: &[u8], ends: &[usize], tokens: &mut [u8]) -> Loaded {
     let services = least(lent.services, KEPT_NAMES);
     loader::load(
-        text::part(buffer, 0, lent.bytes),
+        load_text::part(buffer, 0, lent.bytes),
         first_ends(ends, 2 * services),
         tokens,
     )

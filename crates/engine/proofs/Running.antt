@@ -36,11 +36,11 @@ use Rattle.rules.specs.Calls.{acted, check, gives, next, outcome, ranOutcome, r
 use Rattle.rules.proofs.Formed.{formed-next, formed-sound, sound-next}
 use Rattle.rules.proofs.Runs.{steps-within}
 use Rattle.rules.proofs.Resting.{rests-everywhere, steps-quiet}
-use Rattle.settling.specs.Sound.{sound}
-use Rattle.standing.specs.declared.Standing.{Standing}
-use Rattle.decide.specs.declared.Fits.{Fits}
-use Rattle.decide.specs.Fits.{choiceFrom}
-use Rattle.decide.proofs.Passes.{Fitting, choice-made, user-gathered}
+use Rattle.engine_settling.specs.Sound.{sound}
+use Rattle.engine_standing.specs.declared.Standing.{Standing}
+use Rattle.engine_choice.specs.declared.Fits.{Fits}
+use Rattle.engine_choice.specs.Fits.{choiceFrom}
+use Rattle.engine_choice.proofs.Passes.{Fitting, choice-made, user-gathered}
 use Rattle.engine.specs.declared.Progress.{Progress}
 use Rattle.engine.specs.Quiet.{Advanced, Room, restedWithin}
 use Rattle.engine.proofs.Steps.{chosen-below, step-quiet, step-fits}

@@ -19,10 +19,10 @@ use Rattle.rules.specs.WellFormed.{formed}
 use Rattle.rules.specs.Rules.{Step, lostToUser, leftBy, leaves, handedBy, hands, chosen, act, actOn, nextAction}
 use Rattle.rules.proofs.Next.{Chosen, rule, chosen-is}
 use Rattle.rules.proofs.Resting.{loud}
-use Rattle.settling.specs.Sound.{sound}
-use Rattle.settling.proofs.Formed.{sound-at}
-use Rattle.decide.specs.Lost.{lostByUser}
-use Rattle.decide.proofs.Sets.{lost-to-user}
+use Rattle.engine_settling.specs.Sound.{sound}
+use Rattle.engine_settling.proofs.Formed.{sound-at}
+use Rattle.engine_choice.specs.Lost.{lostByUser}
+use Rattle.engine_choice.proofs.Sets.{lost-to-user}
 
 -- c is what the code chose
 module _ (t : Table) (y : State) (c : Choice) (f : formed t y ≡ true) (choice : c ≡ chosen t y) where

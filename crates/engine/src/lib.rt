@@ -1,18 +1,18 @@
 // The calls of the engine: the events and the query under this crate's name too, and here the fresh state, the next action
 // and a run to quiet. The table and the state go by value: a call copies them a few times, and list 24 is judged once in each
 // call, a run too.
-use actions::hand_out;
+use engine_actions::hand_out;
 use base::overlaps;
-use decide::Fits;
-use decide::choose;
-use decide::fit;
-pub use events::clock;
-pub use events::end;
-pub use events::start;
-pub use events::stop;
-pub use events::stop_all;
-pub use query::query;
-use rule_records::leave;
+use engine_choice::Fits;
+use engine_choice::choose;
+use engine_choice::fit;
+pub use engine_events::clock;
+pub use engine_events::end;
+pub use engine_events::start;
+pub use engine_events::stop;
+pub use engine_events::stop_all;
+pub use engine_query::query;
+use engine_rule_records::leave;
 use rules::Choice;
 use service::Action;
 use service::ActionAnswer;
@@ -24,9 +24,9 @@ use service::Stepped;
 use service::Table;
 use service::action_number;
 use service::action_service;
-use standing::Standing;
-use standing::noted;
-use wellformed::is_formed;
+use engine_standing::Standing;
+use engine_standing::noted;
+use engine_wellformed::is_formed;
 ghost use mathlib.Core.Path.{_≡_};
 ghost use mathlib.Core.Bool.{true};
 ghost use Prim.Native.Nat.{suc, _≤_};

@@ -21,20 +21,20 @@ use Rattle.service.specs.declared.Settings.{Settings}
 use Rattle.rules.specs.Dependencies.{allLinks}
 use Rattle.rules.specs.WellFormed.{linksInside, settingsInRange, tableFormed}
 use Rattle.rules.proofs.Links.{table-sound}
-use Rattle.text.specs.Lines.{fault}
-use Rattle.text.specs.declared.Verdict.{Verdict}
-use Rattle.text.specs.declared.Verdict.the-variants.{Bad as Bad, Good as Good}
-use Rattle.description.specs.Settings.{blank, dependencyAt, descriptionAt, wordAt}
-use Rattle.description.specs.Texts.{textRead}
-use Rattle.description.specs.declared.Description.{Description}
-use Rattle.lent.specs.Checks.{find}
-use Rattle.linking.specs.Links.{linksAt, linksFrom, lowestCyclic, noLinks, servicesFrom, servicesOn, settingsOf, withLink}
+use Rattle.load_text.specs.Lines.{fault}
+use Rattle.load_text.specs.declared.Verdict.{Verdict}
+use Rattle.load_text.specs.declared.Verdict.the-variants.{Bad as Bad, Good as Good}
+use Rattle.load_description.specs.Settings.{blank, dependencyAt, descriptionAt, wordAt}
+use Rattle.load_description.specs.Texts.{textRead}
+use Rattle.load_description.specs.declared.Description.{Description}
+use Rattle.load_lent.specs.Checks.{find}
+use Rattle.load_links.specs.Links.{linksAt, linksFrom, lowestCyclic, noLinks, servicesFrom, servicesOn, settingsOf, withLink}
 use Rattle.loader.specs.Load.{acyclic}
-use Rattle.lent.specs.Parts.{nameAt, serviceCount, textAt}
+use Rattle.load_lent.specs.Parts.{nameAt, serviceCount, textAt}
 use Rattle.loader.specs.Texts.{descriptionsFrom, descriptionsOn, noDescriptions}
 use Rattle.loader.proofs.Outcomes.{every-load, setDescriptions, setServices}
-use Rattle.linking.specs.declared.Linked.{Linked}
-use Rattle.linking.specs.declared.Links.{Links}
+use Rattle.load_links.specs.declared.Linked.{Linked}
+use Rattle.load_links.specs.declared.Links.{Links}
 use Rattle.guarantee.specs.Guarantee.{LoadsFormed}
 use Rattle.guarantee.proofs.Values.{InRange, blank-in, text-in}
 

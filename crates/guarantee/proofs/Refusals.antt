@@ -1,7 +1,7 @@
 -- Demand 1's last words, of the load: a refused load leaves the lent buffer, and the table beside it is that of no services.
 use mathlib.Core.Path.{_≡_, refl}
 use Rattle.service.specs.Settings.{noServices}
-use Rattle.lent.specs.declared.Answer.the-variants.{Accepted}
+use Rattle.load_lent.specs.declared.Answer.the-variants.{Accepted}
 use Rattle.loader.specs.Load.{Outcome}
 use Rattle.loader.proofs.Outcomes.{every-load}
 use Rattle.guarantee.specs.Guarantee.{RefusedLoadLeavesAll}

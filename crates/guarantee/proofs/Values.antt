@@ -10,32 +10,32 @@ use Rattle.base.specs.Folds.{pick}
 use Rattle.base.proofs.Lists.{set-holds}
 use Rattle.base.proofs.Tests.{and-true, either, or-true}
 use Rattle.service.specs.Limits.{longestTime, maxCount}
-use Rattle.text.specs.Lines.{badFrom, linesOf, opening, whiteEnd}
-use Rattle.text.specs.Strings.{partOf}
-use Rattle.text.specs.declared.Opening.{Opening}
-use Rattle.text.specs.declared.Opening.the-variants.{Bad as BadOpening, Named, Nothing as Silent}
-use Rattle.text.specs.declared.Verdict.{Verdict}
-use Rattle.text.specs.declared.Verdict.the-variants.{Bad as Bad, Good as Good}
-use Rattle.value.specs.Values.{isCommand, isWord, scanOf, wordOf}
-use Rattle.value.specs.declared.Scan.{Scan}
-use Rattle.value.specs.declared.Scan.the-variants.{Bad as BadValue, Tokens}
-use Rattle.value.specs.declared.Sizes.{Sizes}
-use Rattle.word.specs.Decimals.{countEnd, countOf, blank as decimalBlank, decimalFrom, timeEnd, timeOf, unitsOf, valued}
-use Rattle.word.specs.Properties.{propertyOf, settingOf, takesCommand, takesName, takesTime, unknownProperty}
-use Rattle.word.specs.Words.{flagOf, isName, kindOf, noOf, signalOf}
-use Rattle.word.specs.declared.Decimal.{Decimal}
-use Rattle.word.specs.declared.Reading.{Reading}
-use Rattle.word.specs.declared.Reading.the-variants.{Off, On}
-use Rattle.word.specs.declared.Setting.{Setting as SettingRead}
-use Rattle.word.specs.declared.Setting.the-variants.{Bad as BadSetting, Value}
-use Rattle.description.specs.Lines.{dependencyRead, lineRead, openingRead, propertyRead, scanRead, settingRead, tokensRead, wordRead}
-use Rattle.description.specs.Settings.{affected, blank, known, maxDependencies, valueOf}
-use Rattle.description.specs.Texts.{cleanRead, linesRead, readOn, textRead}
-use Rattle.description.specs.declared.Description.{Description}
-use Rattle.description.specs.declared.Effect.{Effect}
-use Rattle.description.specs.declared.Effect.the-variants.{Dependency, Nothing, Setting}
-use Rattle.description.specs.declared.Line.{Line}
-use Rattle.description.specs.declared.Line.the-variants.{Bad as BadLine, Good as GoodLine}
+use Rattle.load_text.specs.Lines.{badFrom, linesOf, opening, whiteEnd}
+use Rattle.load_text.specs.Strings.{partOf}
+use Rattle.load_text.specs.declared.Opening.{Opening}
+use Rattle.load_text.specs.declared.Opening.the-variants.{Bad as BadOpening, Named, Nothing as Silent}
+use Rattle.load_text.specs.declared.Verdict.{Verdict}
+use Rattle.load_text.specs.declared.Verdict.the-variants.{Bad as Bad, Good as Good}
+use Rattle.load_value.specs.Values.{isCommand, isWord, scanOf, wordOf}
+use Rattle.load_value.specs.declared.Scan.{Scan}
+use Rattle.load_value.specs.declared.Scan.the-variants.{Bad as BadValue, Tokens}
+use Rattle.load_value.specs.declared.Sizes.{Sizes}
+use Rattle.load_word.specs.Decimals.{countEnd, countOf, blank as decimalBlank, decimalFrom, timeEnd, timeOf, unitsOf, valued}
+use Rattle.load_word.specs.Properties.{propertyOf, settingOf, takesCommand, takesName, takesTime, unknownProperty}
+use Rattle.load_word.specs.Words.{flagOf, isName, kindOf, noOf, signalOf}
+use Rattle.load_word.specs.declared.Decimal.{Decimal}
+use Rattle.load_word.specs.declared.Reading.{Reading}
+use Rattle.load_word.specs.declared.Reading.the-variants.{Off, On}
+use Rattle.load_word.specs.declared.Setting.{Setting as SettingRead}
+use Rattle.load_word.specs.declared.Setting.the-variants.{Bad as BadSetting, Value}
+use Rattle.load_description.specs.Lines.{dependencyRead, lineRead, openingRead, propertyRead, scanRead, settingRead, tokensRead, wordRead}
+use Rattle.load_description.specs.Settings.{affected, blank, known, maxDependencies, valueOf}
+use Rattle.load_description.specs.Texts.{cleanRead, linesRead, readOn, textRead}
+use Rattle.load_description.specs.declared.Description.{Description}
+use Rattle.load_description.specs.declared.Effect.{Effect}
+use Rattle.load_description.specs.declared.Effect.the-variants.{Dependency, Nothing, Setting}
+use Rattle.load_description.specs.declared.Line.{Line}
+use Rattle.load_description.specs.declared.Line.the-variants.{Bad as BadLine, Good as GoodLine}
 
 -- what holds of both sides of a choice, each where its side is taken, holds of the choice
 by-test : {A : Type 0} (P : A → Type 0) (b : Bool) (x y : A) → (b ≡ true → P x) → (b ≡ false → P y) → P (pick b x y)

@@ -8,7 +8,7 @@ use Rattle.rules.specs.Calls.{Call}
 use Rattle.rules.specs.Demand.{Holds}
 use Rattle.rules.specs.WellFormed.{tableFormed}
 use Rattle.loader.specs.Load.{load}
-use Rattle.lent.specs.declared.Answer.the-variants.{Accepted}
+use Rattle.load_lent.specs.declared.Answer.the-variants.{Accepted}
 
 -- THE STATEMENT: for every lent set of names and texts that loads, and every list of calls from the fresh state of its table
 abbrev pub Guarantee : Type 0

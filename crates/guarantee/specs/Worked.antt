@@ -15,20 +15,20 @@ use Rattle.rules.specs.Events.{afterClock, afterEnd, afterStart, afterStop, aft
 use Rattle.rules.specs.Rules.{act, actOn, chosen, chosenFrom, due, fits, hands, leaves, lostToUser, nextAction}
 use Rattle.rules.specs.WellFormed.{formed, shapedAt, stateFormed, tableFormed}
 use Rattle.rules.specs.Worked.{answers, pair, pairAnswers, pairCalls}
-use Rattle.text.specs.Bytes.{run}
-use Rattle.text.specs.Lines.{badFrom, lineFrom, lineNumber, lineOf, linesOf, opening}
-use Rattle.text.specs.Strings.{bytes, indexFrom, partOf, same}
-use Rattle.text.specs.declared.Verdict.{Verdict}
-use Rattle.text.specs.declared.Verdict.the-variants.{Bad as Bad, Good as Good}
-use Rattle.value.specs.Steps.{bareStep, stepOf}
-use Rattle.value.specs.Values.{faultFrom, joined, leading, marksFrom, scanOf, sizesFrom as countFrom, spaced, wordOf, written}
-use Rattle.word.specs.Decimals.{countEnd, countOf, decimalFrom, digitOf, readOf, timeEnd, timeOf}
-use Rattle.word.specs.Properties.{propertyNames, propertyOf, settingOf}
-use Rattle.word.specs.Words.{flagOf, isName, kindOf, nameBytes, noOf, signalNames, signalOf}
-use Rattle.description.specs.Lines.{dependencyRead, lineRead, propertyRead, tokensRead, wordRead}
-use Rattle.description.specs.Settings.{known, valueAt, valueOf, wordAt}
-use Rattle.description.specs.Texts.{completion, linesRead, textRead}
-use Rattle.storing.specs.Tokens.{commandBytes}
+use Rattle.load_text.specs.Bytes.{run}
+use Rattle.load_text.specs.Lines.{badFrom, lineFrom, lineNumber, lineOf, linesOf, opening}
+use Rattle.load_text.specs.Strings.{bytes, indexFrom, partOf, same}
+use Rattle.load_text.specs.declared.Verdict.{Verdict}
+use Rattle.load_text.specs.declared.Verdict.the-variants.{Bad as Bad, Good as Good}
+use Rattle.load_value.specs.Steps.{bareStep, stepOf}
+use Rattle.load_value.specs.Values.{faultFrom, joined, leading, marksFrom, scanOf, sizesFrom as countFrom, spaced, wordOf, written}
+use Rattle.load_word.specs.Decimals.{countEnd, countOf, decimalFrom, digitOf, readOf, timeEnd, timeOf}
+use Rattle.load_word.specs.Properties.{propertyNames, propertyOf, settingOf}
+use Rattle.load_word.specs.Words.{flagOf, isName, kindOf, nameBytes, noOf, signalNames, signalOf}
+use Rattle.load_description.specs.Lines.{dependencyRead, lineRead, propertyRead, tokensRead, wordRead}
+use Rattle.load_description.specs.Settings.{known, valueAt, valueOf, wordAt}
+use Rattle.load_description.specs.Texts.{completion, linesRead, textRead}
+use Rattle.load_tokens.specs.Tokens.{commandBytes}
 use Rattle.loader.specs.Examples.{Service, loadOf, pair-loads, pair as pairTexts}
 use Rattle.loader.specs.Load.{Outcome}
 

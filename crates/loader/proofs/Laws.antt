@@ -13,20 +13,20 @@ use Rattle.base.specs.Folds.{pick}
 use Rattle.base.proofs.Counting.{one-left}
 use Rattle.base.proofs.Tests.{either}
 use Rattle.service.specs.Limits.{maxServices}
-use Rattle.text.specs.declared.Fault.{Fault}
-use Rattle.text.specs.declared.Verdict.the-variants.{Bad as Bad, Good as Good}
-use Rattle.description.specs.Settings.{blank}
-use Rattle.description.specs.Texts.{textRead}
-use Rattle.description.specs.declared.Description.{Description}
-use Rattle.description.specs.declared.Read.{Read}
+use Rattle.load_text.specs.declared.Fault.{Fault}
+use Rattle.load_text.specs.declared.Verdict.the-variants.{Bad as Bad, Good as Good}
+use Rattle.load_description.specs.Settings.{blank}
+use Rattle.load_description.specs.Texts.{textRead}
+use Rattle.load_description.specs.declared.Description.{Description}
+use Rattle.load_description.specs.declared.Read.{Read}
 use Rattle.loader.specs.Short.{Short}
 use Rattle.loader.specs.Texts.{descriptionsFrom, descriptionsOn, noDescriptions}
 use Rattle.loader.specs.declared.Descriptions.{Descriptions}
-use Rattle.lent.specs.Checks.{longestText, longestTexts, sizesFrom}
-use Rattle.lent.specs.declared.Answer.{Answer}
-use Rattle.lent.specs.declared.Answer.the-variants.{Accepted, Refused}
-use Rattle.storing.specs.Tokens.{commandBytes}
-use Rattle.storing.proofs.Laws.{command-short, sets-append}
+use Rattle.load_lent.specs.Checks.{longestText, longestTexts, sizesFrom}
+use Rattle.load_lent.specs.declared.Answer.{Answer}
+use Rattle.load_lent.specs.declared.Answer.the-variants.{Accepted, Refused}
+use Rattle.load_tokens.specs.Tokens.{commandBytes}
+use Rattle.load_tokens.proofs.Laws.{command-short, sets-append}
 
 -- ---- 5: no text is long
 

@@ -11,19 +11,19 @@ use Rattle.base.specs.Folds.{pick}
 use Rattle.service.specs.Limits.{maxServices}
 use Rattle.service.specs.Settings.{defaultSettings, noServices}
 use Rattle.service.specs.declared.Settings.{Settings}
-use Rattle.description.specs.declared.Description.{Description}
+use Rattle.load_description.specs.declared.Description.{Description}
 use Rattle.loader.specs.Load.{Outcome, acyclic, load, loadSet, passed, refusedWith, stored, tested, withDescriptions, withServices}
 use Rattle.loader.specs.Texts.{descriptionsFrom, noDescriptions}
 use Rattle.loader.specs.declared.Descriptions.{Descriptions}
 use Rattle.loader.specs.declared.Loaded.{Loaded}
-use Rattle.lent.specs.Checks.{namesFrom, sizesFrom}
-use Rattle.lent.specs.Parts.{nameAt, positioned, serviceCount, textAt}
-use Rattle.lent.specs.declared.Answer.{Answer}
-use Rattle.lent.specs.declared.Answer.the-variants.{Accepted, Refused}
-use Rattle.linking.specs.Links.{lowestCyclic, tooMany, servicesFrom, servicesIn}
-use Rattle.linking.specs.declared.Services.{Services}
-use Rattle.storing.specs.Tokens.{bytesFrom, commandsFrom, noCommands}
-use Rattle.storing.specs.declared.Commands.{Commands}
+use Rattle.load_lent.specs.Checks.{namesFrom, sizesFrom}
+use Rattle.load_lent.specs.Parts.{nameAt, positioned, serviceCount, textAt}
+use Rattle.load_lent.specs.declared.Answer.{Answer}
+use Rattle.load_lent.specs.declared.Answer.the-variants.{Accepted, Refused}
+use Rattle.load_links.specs.Links.{lowestCyclic, tooMany, servicesFrom, servicesIn}
+use Rattle.load_links.specs.declared.Services.{Services}
+use Rattle.load_tokens.specs.Tokens.{bytesFrom, commandsFrom, noCommands}
+use Rattle.load_tokens.specs.declared.Commands.{Commands}
 
 -- ---- a pass, and a test
 

@@ -8,13 +8,13 @@ use native.Mathlib.Nat.{sub-zero}
 use native.Mathlib.Omega.{arith}
 use Rattle.base.proofs.Counting.{one-left}
 use Rattle.service.specs.Limits.{maxServices}
-use Rattle.text.proofs.Strings.{getD-default}
-use Rattle.description.specs.Settings.{blank, descriptionAt, valueOf}
-use Rattle.description.specs.declared.Description.{Description}
+use Rattle.load_text.proofs.Strings.{getD-default}
+use Rattle.load_description.specs.Settings.{blank, descriptionAt, valueOf}
+use Rattle.load_description.specs.declared.Description.{Description}
 use Rattle.loader.specs.Short.{mostRoom}
-use Rattle.storing.specs.Tokens.{bytesFrom, commandBytes, commandsAt, commandsFrom, roomOf}
-use Rattle.storing.specs.declared.Commands.{Commands}
-use Rattle.storing.proofs.Laws.{sets-append}
+use Rattle.load_tokens.specs.Tokens.{bytesFrom, commandBytes, commandsAt, commandsFrom, roomOf}
+use Rattle.load_tokens.specs.declared.Commands.{Commands}
+use Rattle.load_tokens.proofs.Laws.{sets-append}
 
 -- the places so far are few
 pub record Few (n o j : ℕ) : Type 0 where

@@ -8,25 +8,25 @@ use Rattle.base.specs.Folds.{some, first}
 use Rattle.base.specs.Sets.{hasBit}
 use Rattle.base.specs.Links.{reach}
 use Rattle.service.specs.Settings.{defaultSettings, process}
-use Rattle.text.specs.Strings.{bytes, same, indexFrom, partOf}
-use Rattle.text.specs.Bytes.{run}
-use Rattle.text.specs.Lines.{lineOf, linesOf, badFrom, lineFrom, lineNumber, opening}
-use Rattle.value.specs.Steps.{stepOf, bareStep}
-use Rattle.value.specs.Values.{faultFrom, marksFrom, sizesFrom as countFrom, scanOf, written, leading, wordOf}
-use Rattle.word.specs.Words.{flagOf, noOf, kindOf, signalNames, signalOf, nameBytes, isName}
-use Rattle.word.specs.Decimals.{digitOf, readOf, decimalFrom, timeEnd, timeOf, countEnd, countOf}
-use Rattle.word.specs.Properties.{propertyNames, propertyOf, settingOf}
-use Rattle.description.specs.Settings.{valueAt, wordAt, known}
-use Rattle.description.specs.Lines.{dependencyRead, wordRead, tokensRead, propertyRead, lineRead}
-use Rattle.description.specs.Texts.{completion, linesRead, textRead}
-use Rattle.lent.specs.declared.Answer.{Answer}
-use Rattle.lent.specs.declared.Answer.the-variants.{Accepted, Refused}
-use Rattle.storing.specs.declared.Commands.{Commands}
-use Rattle.lent.specs.Parts.{risesTo, positioned, nameStart, nameAt, textAt}
-use Rattle.lent.specs.Checks.{find, namesFrom, sizesFrom}
+use Rattle.load_text.specs.Strings.{bytes, same, indexFrom, partOf}
+use Rattle.load_text.specs.Bytes.{run}
+use Rattle.load_text.specs.Lines.{lineOf, linesOf, badFrom, lineFrom, lineNumber, opening}
+use Rattle.load_value.specs.Steps.{stepOf, bareStep}
+use Rattle.load_value.specs.Values.{faultFrom, marksFrom, sizesFrom as countFrom, scanOf, written, leading, wordOf}
+use Rattle.load_word.specs.Words.{flagOf, noOf, kindOf, signalNames, signalOf, nameBytes, isName}
+use Rattle.load_word.specs.Decimals.{digitOf, readOf, decimalFrom, timeEnd, timeOf, countEnd, countOf}
+use Rattle.load_word.specs.Properties.{propertyNames, propertyOf, settingOf}
+use Rattle.load_description.specs.Settings.{valueAt, wordAt, known}
+use Rattle.load_description.specs.Lines.{dependencyRead, wordRead, tokensRead, propertyRead, lineRead}
+use Rattle.load_description.specs.Texts.{completion, linesRead, textRead}
+use Rattle.load_lent.specs.declared.Answer.{Answer}
+use Rattle.load_lent.specs.declared.Answer.the-variants.{Accepted, Refused}
+use Rattle.load_tokens.specs.declared.Commands.{Commands}
+use Rattle.load_lent.specs.Parts.{risesTo, positioned, nameStart, nameAt, textAt}
+use Rattle.load_lent.specs.Checks.{find, namesFrom, sizesFrom}
 use Rattle.loader.specs.Texts.{descriptionsFrom}
-use Rattle.linking.specs.Links.{linksFrom, servicesFrom, lowestCyclic}
-use Rattle.storing.specs.Tokens.{commandBytes, commandCount, bytesFrom, commandsFrom}
+use Rattle.load_links.specs.Links.{linksFrom, servicesFrom, lowestCyclic}
+use Rattle.load_tokens.specs.Tokens.{commandBytes, commandCount, bytesFrom, commandsFrom}
 use Rattle.loader.specs.Load.{Outcome, stored, acyclic, loadSet, load}
 
 -- a service's name and text

@@ -10,17 +10,17 @@ use Rattle.base.specs.Folds.{pick}
 use Rattle.service.specs.Limits.{maxServices}
 use Rattle.service.specs.Settings.{defaultSettings, noServices}
 use Rattle.service.specs.declared.Settings.{Settings}
-use Rattle.description.specs.declared.Description.{Description}
-use Rattle.lent.specs.declared.Answer.{Answer}
-use Rattle.lent.specs.declared.Answer.the-variants.{Accepted, Refused}
+use Rattle.load_description.specs.declared.Description.{Description}
+use Rattle.load_lent.specs.declared.Answer.{Answer}
+use Rattle.load_lent.specs.declared.Answer.the-variants.{Accepted, Refused}
 use Rattle.loader.specs.declared.Descriptions.{Descriptions}
-use Rattle.linking.specs.declared.Services.{Services}
+use Rattle.load_links.specs.declared.Services.{Services}
 use Rattle.loader.specs.declared.Loaded.{Loaded}
-use Rattle.lent.specs.Parts.{serviceCount, positioned, nameAt, textAt}
-use Rattle.lent.specs.Checks.{namesFrom, sizesFrom}
+use Rattle.load_lent.specs.Parts.{serviceCount, positioned, nameAt, textAt}
+use Rattle.load_lent.specs.Checks.{namesFrom, sizesFrom}
 use Rattle.loader.specs.Texts.{noDescriptions, descriptionsFrom}
-use Rattle.linking.specs.Links.{servicesFrom, lowestCyclic}
-use Rattle.storing.specs.Tokens.{bytesFrom, noCommands, commandsFrom}
+use Rattle.load_links.specs.Links.{servicesFrom, lowestCyclic}
+use Rattle.load_tokens.specs.Tokens.{bytesFrom, noCommands, commandsFrom}
 
 -- what a load gives back, and what the lent buffer holds then
 pub record Outcome : Type 0 where

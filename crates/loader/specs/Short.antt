@@ -2,7 +2,7 @@
 use Prim.Native.Nat.{ℕ, _+_, _*_, _<_, _≤_}
 use mathlib.Core.List.{List}
 use lib.ListN.{length}
-use Rattle.lent.specs.Checks.{longestText}
+use Rattle.load_lent.specs.Checks.{longestText}
 
 pub record Short (text : ℕ → List ℕ) (n : ℕ) : Type 0 where
   pub each : (j : ℕ) → j < n → length (text j) ≤ longestText

@@ -3,14 +3,14 @@ use Prim.Native.Nat.{_+_, suc, zero, ℕ}
 use lib.ListN.{replicate, set}
 use mathlib.Core.List.{List}
 use Rattle.service.specs.Limits.{maxServices}
-use Rattle.text.specs.declared.Verdict.{Verdict}
-use Rattle.text.specs.declared.Verdict.the-variants.{Bad as Bad, Good as Good}
-use Rattle.description.specs.Settings.{blank}
-use Rattle.description.specs.Texts.{textRead}
-use Rattle.description.specs.declared.Description.{Description}
+use Rattle.load_text.specs.declared.Verdict.{Verdict}
+use Rattle.load_text.specs.declared.Verdict.the-variants.{Bad as Bad, Good as Good}
+use Rattle.load_description.specs.Settings.{blank}
+use Rattle.load_description.specs.Texts.{textRead}
+use Rattle.load_description.specs.declared.Description.{Description}
 use Rattle.loader.specs.declared.Descriptions.{Descriptions}
-use Rattle.lent.specs.Refusals.{refusedIn}
-use Rattle.lent.specs.declared.Answer.the-variants.{Accepted}
+use Rattle.load_lent.specs.Refusals.{refusedIn}
+use Rattle.load_lent.specs.declared.Answer.the-variants.{Accepted}
 
 abbrev pub noDescriptions : List Description
 noDescriptions = replicate maxServices blank

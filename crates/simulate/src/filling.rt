@@ -4,13 +4,13 @@ use crate::output::put;
 use crate::output::put_bytes;
 use crate::output::put_number;
 use crate::output::put_set;
-use replies::CAUSES;
-use replies::KINDS;
-use replies::PHASES;
-use replies::RESTARTS;
-use replies::SIGNALS;
-use replies::TEXTS;
-use words::piece;
+use scenario_replies::CAUSES;
+use scenario_replies::KINDS;
+use scenario_replies::PHASES;
+use scenario_replies::RESTARTS;
+use scenario_replies::SIGNALS;
+use scenario_replies::TEXTS;
+use scenario_words::piece;
 
 fn is_mark(byte: u8) -> bool {
     (byte == b'#') | (byte == b'~') | ((b'A' <= byte) & (byte <= b'Z'))

@@ -7,22 +7,22 @@ use crate::output::Output;
 use crate::output::put;
 use crate::output::put_bytes;
 use crate::output::put_hex_bytes;
-use encoding::EACH;
-use encoding::FRONT;
-use encoding::Numbers;
-use lent::name_at;
-use numbered::Counts;
-use replies::CLOCK_LINE;
-use replies::COMMANDS;
-use replies::NO_TOKENS;
-use replies::RECORD;
-use replies::RECORD_TIMED;
-use replies::SERVICE_HEAD;
-use replies::SERVICE_TAIL;
-use replies::SETTINGS;
-use replies::TOKENS;
+use plain_encoding::EACH;
+use plain_encoding::FRONT;
+use plain_encoding::Numbers;
+use load_lent::name_at;
+use plain::Counts;
+use scenario_replies::CLOCK_LINE;
+use scenario_replies::COMMANDS;
+use scenario_replies::NO_TOKENS;
+use scenario_replies::RECORD;
+use scenario_replies::RECORD_TIMED;
+use scenario_replies::SERVICE_HEAD;
+use scenario_replies::SERVICE_TAIL;
+use scenario_replies::SETTINGS;
+use scenario_replies::TOKENS;
 use service::MAX_SERVICES;
-use text::part;
+use load_text::part;
 
 // The numbers from a place on, so many of them.
 fn range(numbers: &[u64], from: usize, count: usize) -> &[u64] {

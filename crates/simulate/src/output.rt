@@ -1,6 +1,6 @@
 // The output, collected in a lent buffer and written in large pieces. Each function answers the place after what it put.
 use libc::STDOUT_FILENO;
-use text::part;
+use load_text::part;
 
 pub(crate) type Output = [u8; 65536];
 

@@ -6,12 +6,12 @@ use crate::filling::put_text;
 use crate::output::Output;
 use crate::output::put;
 use crate::output::put_bytes;
-use numbered::Run;
-use replies::RUN_COUNT;
-use replies::Reply;
-use replies::action_signal;
-use replies::action_text;
-use replies::refused_reply;
+use plain::Run;
+use scenario_replies::RUN_COUNT;
+use scenario_replies::Reply;
+use scenario_replies::action_signal;
+use scenario_replies::action_text;
+use scenario_replies::refused_reply;
 
 // What a run is lent, for the services or for the actions.
 pub(crate) type Places = [u64; 256];

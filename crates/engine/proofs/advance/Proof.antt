@@ -7,8 +7,8 @@ use Rattle.base.proofs.Loops.{Folded, folded-none, folded-more}
 use Rattle.service.specs.Limits.{maxServices}
 use Rattle.service.specs.Settings.{settingsAt}
 use Rattle.service.specs.Records.{recordAt, withRecord}
-use Rattle.standing.specs.Standing.{nowhere, noting}
-use Rattle.decide.proofs.Passes.{Fitting, fitting-none, fitting-more}
+use Rattle.engine_standing.specs.Standing.{nowhere, noting}
+use Rattle.engine_choice.proofs.Passes.{Fitting, fitting-none, fitting-more}
 use Rattle.engine.proofs.Running.{Running, running-none, running-room, running-all, turn-inside, turn-quiet, turn-on}
 use borrow.Author.Needs.{needs}
 use Rattle.engine.proofs.advance.Statement.{statement}

@@ -3,7 +3,7 @@ use Prim.Native.Nat.{_-_, _≤_}
 use native.Mathlib.Nat.{sub-zero}
 use native.Mathlib.Omega.{arith}
 use mathlib.Core.Path.{_≡_, refl, sym, _∙_}
-use Rattle.lent.specs.Parts.{textAt}
+use Rattle.load_lent.specs.Parts.{textAt}
 use Rattle.loader.specs.Texts.{descriptionsFrom}
 use Rattle.loader.proofs.Laws.{texts-end, texts-read, texts-bad}
 use borrow.Author.Needs.{needs}

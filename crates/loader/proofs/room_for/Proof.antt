@@ -1,6 +1,6 @@
 -- `room_for` meets its contract: the room so far, and that of the services left.
 use Prim.Native.Nat.{_-_}
-use Rattle.lent.specs.Parts.{textAt}
+use Rattle.load_lent.specs.Parts.{textAt}
 use Rattle.loader.proofs.Laws.{text-short}
 use Rattle.loader.proofs.Services.{Counted, next-fits, counted-none, counted-more, counted-end}
 use borrow.Author.Needs.{needs}

@@ -1,6 +1,6 @@
 -- `write_all` meets its contract: what is left to place and to write, from the place that was reached.
 use Prim.Native.Nat.{_-_}
-use Rattle.lent.specs.Parts.{textAt}
+use Rattle.load_lent.specs.Parts.{textAt}
 use Rattle.loader.proofs.Laws.{text-short}
 use Rattle.loader.proofs.Services.{Stored, place-fits, next-fits, stored-none, stored-more, placed-end, written-end}
 use borrow.Author.Needs.{needs}

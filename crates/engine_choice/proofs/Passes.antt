@@ -1,0 +1,40 @@
+-- The two passes: the sets are gathered, then each rule's services, then the choice is made.
+use Prim.Native.Nat.{ℕ, _+_, _<_, _≤_}
+use native.Mathlib.Omega.{arith}
+use mathlib.Core.Path.{_≡_, ap, _∙_}
+use Rattle.base.proofs.Loops.{Folded, folded-none, folded-more, folded-all}
+use Rattle.service.specs.Limits.{maxServices}
+use Rattle.service.specs.declared.Table.{Table}
+use Rattle.service.specs.declared.State.{State}
+use Rattle.rules.specs.declared.Choice.{Choice}
+use Rattle.rules.specs.Rules.{chosen}
+use Rattle.engine_standing.specs.declared.Standing.{Standing}
+use Rattle.engine_standing.specs.Standing.{nowhere, noting, standing}
+use Rattle.engine_choice.specs.declared.Fits.{Fits}
+use Rattle.engine_choice.specs.Fits.{noFits, fitting, fitted, choiceFrom}
+use Rattle.engine_choice.specs.Lost.{lostByUser}
+use Rattle.engine_choice.proofs.Sets.{choice-as, user-as}
+
+-- the second pass: the sets are whole, and the services below s are fitted
+pub record Fitting (t : Table) (x : State) (st : Standing) (f : Fits) (s : ℕ) : Type 0 where
+  pub stands : st ≡ standing t x (t .count)
+  pub folded : Folded (fitting t x st) noFits (t .count) f s
+
+module _ {t : Table} {x : State} where
+  pub fitting-none : {st : Standing} {f : Fits} {i : ℕ} → Folded (noting t x) nowhere (t .count) st i → t .count ≤ i → f ≡ noFits
+      → Fitting t x st f 0
+  fitting-none h l e = record { stands = folded-all h l; folded = rw e folded-none }
+
+  pub fitting-more : {st : Standing} {f g : Fits} {s : ℕ} → Fitting t x st f s → s < t .count → g ≡ fitting t x st f s
+      → Fitting t x st g (s + 1)
+  fitting-more h l e = record { stands = h .stands; folded = folded-more (h .folded) l e }
+
+  -- after both passes; with more than 64 services a set would not hold them
+  module _ {st : Standing} {f : Fits} {s : ℕ} (few : t .count ≤ maxServices) (h : Fitting t x st f s) (l : t .count ≤ s) where
+    pub choice-made : {c : Choice} → c ≡ choiceFrom f (t .count) → c ≡ chosen t x
+    choice-made e =
+        e ∙ ap (λ a. choiceFrom a (t .count)) (folded-all (h .folded) l ∙ ap (λ a. fitted t x a (t .count)) (h .stands))
+        ∙ choice-as t x (omega arith)
+
+    pub user-gathered : st .user ≡ lostByUser t x
+    user-gathered = ap (λ (a : Standing). a .user) (h .stands) ∙ user-as t x (omega arith)

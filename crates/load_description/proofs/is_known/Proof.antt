@@ -1,0 +1,38 @@
+-- `is_known` meets its contract: a loop over the places of dependencies.
+use Prim.Native.Nat.{_-_}
+use Rattle.base.proofs.Loops.{Some, folded-none, some-more, some-all}
+use Rattle.load_description.specs.Settings.{dependencyAt, isDependency, known}
+use borrow.Author.Needs.{needs}
+use Rattle.load_description.proofs.is_known.Statement.{statement}
+use Rattle.load_description.proofs.is_known.Tie as tie
+
+abbrev Inv-loop : tie.InvT-loop
+Inv-loop text property word d found₀ k₀ found k = Some (λ j. isDependency text (dependencyAt d j) property word) 16 found k
+
+abbrev μ-loop : tie.MeasureT-loop
+μ-loop text property word d found₀ k₀ found k = 16 - k
+
+loop-holds : tie.Need-loop-holds Inv-loop μ-loop
+loop-holds c = folded-none
+
+loop-again : tie.Need-loop-again Inv-loop μ-loop
+loop-again c = some-more (c .before .before .before .loop .inv) (c .before .before .loop-test .taken) (c .is-dependency .ensures)
+
+returns : tie.Need-returns Inv-loop μ-loop
+unfolding known
+returns c = some-all (c .before .loop .inv) (c .loop-test .left)
+
+pub is-known-spec : {M : Type 1} → statement M
+is-known-spec =
+    tie.close
+    (tie.spec
+    Inv-loop
+    μ-loop
+    loop-holds
+    (λ c. search needs)
+    (λ c. search needs)
+    (λ c κs. search needs)
+    (λ c. search needs)
+    (λ c. search needs)
+    loop-again
+    returns)

@@ -1,0 +1,13 @@
+-- `refused_in` meets its contract.
+use borrow.Author.Needs.{needs}
+use Rattle.load_lent.proofs.refused_in.Statement.{statement}
+use Rattle.load_lent.proofs.refused_in.Tie as tie
+
+returns : tie.Need-returns
+returns c = rw (c .line-number .ensures, c .before .if1 .taken)
+
+returns-2 : tie.Need-returns-2
+returns-2 c = rw (c .if1 .left)
+
+pub refused-in-spec : {M : Type 1} → statement M
+refused-in-spec = tie.close (tie.spec (λ c κs. search needs) returns returns-2)

@@ -1,0 +1,190 @@
+// A description read line by line: each line's answer, what it does to the settings, and the whole text.
+use load_description::Dependency;
+use load_description::Description;
+use load_description::Effect;
+use load_description::Line;
+use load_description::MAX_DEPENDENCIES;
+use load_description::PROPERTIES;
+use load_description::Read;
+use load_description::complete;
+use load_description::read_tokens;
+use load_text::Fault;
+use load_text::Opening;
+use load_text::Places;
+use load_text::Verdict;
+use load_text::first_bad;
+use load_text::line_end;
+use load_text::opening_of;
+use load_text::part;
+use load_text::tail;
+use load_text::white_end;
+use load_value::Scan;
+use load_value::scan_value;
+use load_word::property;
+ghost use mathlib.Core.Path.{_≡_};
+ghost use Prim.Native.Nat.{_+_, _<_};
+ghost use lib.ListN.{length};
+ghost use Rattle.load_text.specs.Lines.{linesOf};
+ghost use Rattle.load_text.proofs.Lines.{Inside};
+ghost use Rattle.load_description.specs.Settings.{blank, withSetting, withDependency, affected};
+ghost use Rattle.load_description.specs.Lines.{isSilent, propertyRead, openingRead};
+ghost use Rattle.load_description.specs.Texts.{readAs, readOn, linesRead, textRead};
+
+// A setting more, in the place of an earlier one.
+fn with_setting(d: Description, property: usize, value: u64) -> Description
+    ensures { λ r. ⌜ r ≡ withSetting d property value ⌝ }
+{
+    let mut next = d;
+    if property < PROPERTIES {
+        next.values[property] = value;
+    }
+    next
+}
+
+// A dependency more.
+fn with_dependency(d: Description, property: usize, at: usize) -> Description
+    requires { ⌜ d .count < 18446744073709551615 ⌝ }
+    ensures { λ r. ⌜ r ≡ withDependency d property at ⌝ }
+{
+    let mut next = d;
+    let k = d.count;
+    let after = k + 1;
+    if k < MAX_DEPENDENCIES {
+        next.dependencies[k] = Dependency { property, at };
+    }
+    next.count = after;
+    next
+}
+
+// What a line does to the settings.
+fn affect(d: Description, e: Effect) -> Description
+    requires { ⌜ d .count < 18446744073709551615 ⌝ }
+    ensures { λ r. ⌜ r ≡ affected d e ⌝ }
+{
+    match e {
+        Effect::Nothing => d,
+        Effect::Setting(property, value) => with_setting(d, property, value),
+        Effect::Dependency(property, at) => with_dependency(d, property, at),
+    }
+}
+
+// A line whose property has a number; the line begins at the offset `from`.
+fn read_property(text: &[u8], d: Description, from: usize, line: &[u8], s: Places, p: usize) -> Line
+    requires { ⌜ (from + length (now line) < 9223372036854775808) × Inside (length (now line)) (Opening.Named s) ⌝ }
+    ensures { λ r. ⌜ r ≡ propertyRead (now (text .entry)) d from (now (line .entry)) s p ⌝ }
+{
+    let start = from + s.from;
+    let v = s.value;
+    let unknown = p == PROPERTIES;
+    if unknown {
+        return Line::Bad(Fault {
+            number: 10,
+            at: start,
+        });
+    }
+    let at = from + v;
+    let seen = from + white_end(line, v);
+    let value = tail(line, v);
+    match scan_value(value) {
+        Scan::Tokens(z) => read_tokens(text, d, p, at, seen, z, value),
+        Scan::Bad(f) => Line::Bad(Fault {
+            number: f.number,
+            at: at + f.at,
+        }),
+    }
+}
+
+// The answer to a line by how it begins.
+fn read_line(text: &[u8], d: Description, from: usize, line: &[u8], o: Opening) -> Line
+    requires { ⌜ (from + length (now line) < 9223372036854775808) × Inside (length (now line)) o ⌝ }
+    ensures { λ r. ⌜ r ≡ openingRead (now (text .entry)) d from (now (line .entry)) o ⌝ }
+{
+    match o {
+        Opening::Nothing => Line::Good(Effect::Nothing),
+        Opening::Named(s) => {
+            let a = s.from;
+            let e = s.end;
+            let p = property(part(line, a, e));
+            read_property(text, d, from, line, s, p)
+        }
+        Opening::Bad(f) => Line::Bad(Fault {
+            number: f.number,
+            at: from + f.at,
+        }),
+    }
+}
+
+fn says_nothing(o: Opening) -> bool
+    ensures { λ r. ⌜ r ≡ isSilent o ⌝ }
+{
+    match o {
+        Opening::Nothing => true,
+        Opening::Named(s) => false,
+        Opening::Bad(f) => false,
+    }
+}
+
+// What a line's answer ends the text with.
+fn ended(a: Line, d: Description) -> Read
+    requires { ⌜ d .count < 18446744073709551615 ⌝ }
+    ensures { λ r. ⌜ r ≡ readOn a d (readAs Verdict.Good) ⌝ }
+{
+    match a {
+        Line::Good(e) => {
+            let next = affect(d, e);
+            Read {
+                answer: Verdict::Good,
+                description: next,
+            }
+        }
+        Line::Bad(f) => Read {
+            answer: Verdict::Bad(f),
+            description: d,
+        },
+    }
+}
+
+// The lines of a text with no bad byte.
+fn read_lines(text: &[u8]) -> Read
+    ensures { λ r. ⌜ r ≡ linesRead (now (text .entry)) blank 0 (linesOf (now (text .entry))) ⌝ }
+{
+    let mut d = Description::blank();
+    let mut from: usize = 0;
+    while from < text.len() {
+        let e = line_end(text, from);
+        let next = e + 1;
+        let line = part(text, from, e);
+        let opening = opening_of(line);
+        let silent = says_nothing(opening);
+        if silent {
+            from = next;
+        } else {
+            let answer = read_line(text, d, from, line, opening);
+            let Line::Good(effect) = answer else {
+                return ended(answer, d);
+            };
+            d = affect(d, effect);
+            from = next;
+        }
+    }
+    let answer = complete(d);
+    Read {
+        answer,
+        description: d,
+    }
+}
+
+// The settings of a description, or its first fault.
+pub fn read_text(text: &[u8]) -> Read
+    ensures { λ r. ⌜ r ≡ textRead (now (text .entry)) ⌝ }
+{
+    let found = first_bad(text);
+    let Verdict::Good = found else {
+        let none = Description::blank();
+        return Read {
+            answer: found,
+            description: none,
+        };
+    };
+    read_lines(text)
+}
