@@ -16,7 +16,7 @@ use Rattle.base.proofs.Bits.{within-none, within-or, within-power}
 use Rattle.base.proofs.Lists.{copies-hold, set-holds}
 use Rattle.base.proofs.Tests.{tests}
 use Rattle.service.specs.Limits.{maxServices}
-use Rattle.service.specs.Settings.{defaultSettings, noServices, noSettings, settingsAt}
+use Rattle.service.specs.Settings.{defaultSettings, noServices, settingsAt}
 use Rattle.service.specs.declared.Settings.{Settings}
 use Rattle.rules.specs.Dependencies.{allLinks}
 use Rattle.rules.specs.WellFormed.{linksInside, settingsInRange, tableFormed}
@@ -88,7 +88,7 @@ service-in n d l h k = record {
 default-in : (n : ℕ) → ServiceIn n defaultSettings
 default-in n = record { inside = simp tests ((within-none n, within-none n), within-none n); ranged = refl }
 
-no-settings-in : (n : ℕ) → ServiceIn n noSettings
+no-settings-in : (n : ℕ) → ServiceIn n defaultSettings
 no-settings-in n = record { inside = simp tests ((within-none n, within-none n), within-none n); ranged = refl }
 
 -- ---- the passes
@@ -110,13 +110,13 @@ descriptions-in text ds j (suc m) h =
 
 -- every service of the set is in range
 abbrev AllServices : ℕ → List Settings → Type 0
-AllServices n vs = (i : ℕ) → ServiceIn n (getD vs i noSettings)
+AllServices n vs = (i : ℕ) → ServiceIn n (getD vs i defaultSettings)
 
 services-in : (name text : ℕ → List ℕ) (ds : List Description) (n : ℕ) (vs : List Settings) (j m : ℕ) → AllIn ds → AllServices n vs → AllServices n (servicesFrom name text ds n vs j m .services)
 unfolding servicesFrom
 services-in name text ds n vs j zero h k = k
 services-in name text ds n vs j (suc m) h k =
-    go (r .answer) (services-in name text ds n vs′ (j + 1) m h (λ i. set-holds (ServiceIn n) vs j i (settingsOf d (r .links)) noSettings (λ _. service-in n d (r .links) (h j) (links-in name n (text j) d noLinks 0 (d .count) (no-links-in n))) (k i)))
+    go (r .answer) (services-in name text ds n vs′ (j + 1) m h (λ i. set-holds (ServiceIn n) vs j i (settingsOf d (r .links)) defaultSettings (λ _. service-in n d (r .links) (h j) (links-in name n (text j) d noLinks 0 (d .count) (no-links-in n))) (k i)))
   where
     d : Description
     d = descriptionAt ds j
@@ -162,7 +162,7 @@ set-in : (lent ends : List ℕ) → AllServices (serviceCount ends) (setServices
 set-in lent ends =
     services-in (nameAt lent ends) (textAt lent ends) (setDescriptions lent ends) n (replicate maxServices defaultSettings) 0 n
     (descriptions-in (textAt lent ends) noDescriptions 0 n (λ i. copies-hold InRange maxServices i blank blank blank-in blank-in))
-    (λ i. copies-hold (ServiceIn n) maxServices i defaultSettings noSettings (default-in n) (no-settings-in n))
+    (λ i. copies-hold (ServiceIn n) maxServices i defaultSettings defaultSettings (default-in n) (no-settings-in n))
   where
     n : ℕ
     n = serviceCount ends

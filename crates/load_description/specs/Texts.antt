@@ -1,6 +1,6 @@
 -- "each text in turn: 6 over the whole text, its lines, 13, 14"
 use Prim.Native.Nat.{ℕ, _+_}
-use mathlib.Core.Bool.{Bool, _&&_, true, false}
+use mathlib.Core.Bool.{Bool, _&&_, not, true, false}
 use mathlib.Core.List.{List, [], _∷_}
 use lib.Dec.{eqb}
 use lib.ListN.{length}
@@ -10,12 +10,11 @@ use Rattle.service.specs.declared.Kind.the-variants.{Internal, Process, Scripte
 use Rattle.load_text.specs.Lines.{fault, linesOf, badFrom}
 use Rattle.load_text.specs.declared.Verdict.{Verdict}
 use Rattle.load_text.specs.declared.Verdict.the-variants.{Good, Bad}
-use Rattle.load_word.specs.Words.{kindFrom}
 use Rattle.load_description.specs.declared.Description.{Description}
 use Rattle.load_description.specs.declared.Line.{Line}
 use Rattle.load_description.specs.declared.Line.the-variants.{Good as GoodLine, Bad as BadLine}
 use Rattle.load_description.specs.declared.Read.{Read}
-use Rattle.load_description.specs.Settings.{blank, affected, valueOf}
+use Rattle.load_description.specs.Settings.{blank, affected}
 use Rattle.load_description.specs.Lines.{lineRead}
 
 -- the settings so far, with a verdict
@@ -36,8 +35,8 @@ needsCommand Internal = false
 -- 13 / 14: "no type / process or scripted without command"; they have no byte that decides
 unfoldable pub completion : Description → Verdict
 completion d =
-    pick (eqb (valueOf d 0) 0) (Bad (fault 13 0))
-    (pick (needsCommand (kindFrom (valueOf d 0)) && eqb (valueOf d 1) 0) (Bad (fault 14 0)) Good)
+    pick (not (d .typed)) (Bad (fault 13 0))
+    (pick (needsCommand (d .settings .kind) && eqb (d .kept .command) 0) (Bad (fault 14 0)) Good)
 
 -- the lines that are left, of which the first begins at the offset `from`
 unfoldable pub linesRead : List ℕ → Description → ℕ → List (List ℕ) → Read

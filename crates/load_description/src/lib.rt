@@ -25,28 +25,35 @@ ghost use Rattle.load_description.specs.Texts.{needsCommand, completion}
 // How many dependencies a service may have.
 pub const MAX_DEPENDENCIES: usize = 16;
 
-// How many properties there are.
-pub const PROPERTIES: usize = 14;
-
-// A dependency as the text has it: the number of its property, and the offset where its value begins.
+// A dependency as the text has it: by which property, and the offset where its value begins.
 pub struct Dependency {
-    pub property: usize,
+    pub link: Link,
     pub at: usize,
 }
 
-// The settings of one description, by the number of their property: a type's value, the offset of a command's value, a flag,
-// a time, a count, a signal's number; and its dependencies, of which there are `count`.
+// The offsets where the values that are kept begin; 0 where there is none.
+pub struct Kept {
+    pub command: usize,
+    pub stop: usize,
+}
+
+// What the lines so far say: the settings, but for the services depended on; whether there was a type; what is kept; the dependencies, of
+// which there are `count`.
 pub struct Description {
-    pub values: [u64; PROPERTIES],
+    pub settings: Settings,
+    pub typed: bool,
+    pub kept: Kept,
     pub count: usize,
     pub dependencies: [Dependency; MAX_DEPENDENCIES],
 }
 
-// What a line does: nothing, a setting of a property, or a dependency more by a property, whose value begins at an offset.
+// What a line does: nothing; a type; other settings; a command, or a dependency more, whose value begins at an offset.
 pub enum Effect {
     Nothing,
-    Setting(usize, u64),
-    Dependency(usize, usize),
+    Kind(Kind),
+    Settings(Settings),
+    Command(Command, usize),
+    Dependency(Link, usize),
 }
 
 // What the line reader answers.

@@ -11,7 +11,7 @@ use Rattle.base.specs.Links.{reach}
 use Rattle.base.specs.Sets.{hasBit}
 use Rattle.service.specs.Limits.{maxServices}
 use Rattle.service.specs.Numbers.{signalAt}
-use Rattle.service.specs.Settings.{defaultSettings, linksOf, noSettings}
+use Rattle.service.specs.Settings.{defaultSettings, linksOf}
 use Rattle.service.specs.declared.Settings.{Settings}
 use Rattle.load_text.specs.Lines.{fault}
 use Rattle.load_text.specs.declared.Verdict.{Verdict}
@@ -85,7 +85,7 @@ servicesIn name text ds n =
 
 -- all that service s depends on
 abbrev pub linksAt : List Settings → ℕ → ℕ
-linksAt vs s = linksOf (getD vs s noSettings)
+linksAt vs s = linksOf (getD vs s defaultSettings)
 
 -- "the lowest service on any cycle", or n where there is none
 unfoldable pub lowestCyclic : List Settings → ℕ → ℕ

@@ -4,39 +4,39 @@ use mathlib.Core.Path.{_≡_, _∙_}
 use mathlib.Core.Bool.{true, false}
 use mathlib.Core.List.{List}
 use lib.Dec.{eqb}
-use Rattle.load_word.specs.declared.Setting.{Setting}
-use Rattle.load_word.specs.declared.Setting.the-variants.{Bad}
+use Rattle.load_word.specs.declared.Worth.{Worth}
+use Rattle.load_word.specs.declared.Worth.the-variants.{Bad}
 use Rattle.load_word.specs.Words.{flagOf, noOf, kindOf, signalOf}
 use Rattle.load_word.specs.Decimals.{timeOf, countOf}
 use Rattle.load_word.specs.Properties.{takesTime, settingOf}
 
 module _ (p : ℕ) (w : List ℕ) where
-  pub setting-kind : {r : Setting} → eqb p 0 ≡ true → r ≡ kindOf w → r ≡ settingOf p w
+  pub setting-kind : {r : Worth} → eqb p 0 ≡ true → r ≡ kindOf w → r ≡ settingOf p w
   unfolding settingOf
   setting-kind t e = e ∙ rw t
 
   module _ (typed : eqb p 0 ≡ false) where
-    pub setting-flag : {r : Setting} → eqb p 3 ≡ true → r ≡ flagOf w → r ≡ settingOf p w
+    pub setting-flag : {r : Worth} → eqb p 3 ≡ true → r ≡ flagOf w → r ≡ settingOf p w
     unfolding settingOf
     setting-flag t e = e ∙ rw (typed, t)
 
     module _ (restarts : eqb p 3 ≡ false) where
-      pub setting-no : {r : Setting} → eqb p 4 ≡ true → r ≡ noOf w → r ≡ settingOf p w
+      pub setting-no : {r : Worth} → eqb p 4 ≡ true → r ≡ noOf w → r ≡ settingOf p w
       unfolding settingOf
       setting-no t e = e ∙ rw (typed, restarts, t)
 
       module _ (smooth : eqb p 4 ≡ false) where
-        pub setting-limit : {r : Setting} → eqb p 7 ≡ true → r ≡ countOf w → r ≡ settingOf p w
+        pub setting-limit : {r : Worth} → eqb p 7 ≡ true → r ≡ countOf w → r ≡ settingOf p w
         unfolding settingOf
         setting-limit t e = e ∙ rw (typed, restarts, smooth, t)
 
         module _ (limits : eqb p 7 ≡ false) where
-          pub setting-signal : {r : Setting} → eqb p 13 ≡ true → r ≡ signalOf w → r ≡ settingOf p w
+          pub setting-signal : {r : Worth} → eqb p 13 ≡ true → r ≡ signalOf w → r ≡ settingOf p w
           unfolding settingOf
           setting-signal t e = e ∙ rw (typed, restarts, smooth, limits, t)
 
           module _ (signals : eqb p 13 ≡ false) where
-            pub setting-time : {r : Setting} → takesTime p ≡ true → r ≡ timeOf w → r ≡ settingOf p w
+            pub setting-time : {r : Worth} → takesTime p ≡ true → r ≡ timeOf w → r ≡ settingOf p w
             unfolding settingOf
             setting-time t e = e ∙ rw (typed, restarts, smooth, limits, signals, t)
 

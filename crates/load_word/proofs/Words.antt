@@ -11,7 +11,7 @@ use Rattle.service.specs.Numbers.{lastSignal}
 use Rattle.load_text.specs.Strings.{bytes, indexFrom, same}
 use Rattle.load_text.specs.Bytes.{isNameByte}
 use Rattle.load_word.specs.Words.{nameBytes, noOf, signalNames, signalOf}
-use Rattle.load_word.specs.declared.Setting.the-variants.{Value, Bad}
+use Rattle.load_word.specs.declared.Worth.the-variants.{Value, Bad}
 
 module _ (s : List ℕ) (k : ℕ) where
   pub bytes-end : length s ≤ k → nameBytes (drop k s) ≡ true

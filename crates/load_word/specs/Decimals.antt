@@ -6,8 +6,8 @@ use lib.Dec.{eqb, leb, ltb}
 use Rattle.base.specs.Folds.{pick}
 use Rattle.service.specs.Limits.{longestTime, maxCount}
 use Rattle.load_text.specs.Bytes.{isDigit}
-use Rattle.load_word.specs.declared.Setting.{Setting}
-use Rattle.load_word.specs.declared.Setting.the-variants.{Value, Bad}
+use Rattle.load_word.specs.declared.Worth.{Worth}
+use Rattle.load_word.specs.declared.Worth.the-variants.{Value, Bad}
 use Rattle.load_word.specs.declared.Decimal.{Decimal}
 use Rattle.load_word.specs.declared.Reading.{Reading}
 use Rattle.load_word.specs.declared.Reading.the-variants.{On, Off}
@@ -43,7 +43,7 @@ unfoldable pub decimalFrom : Decimal → List ℕ → Reading
 decimalFrom k [] = On k
 decimalFrom k (b ∷ bs) = continued (readOf k b) (λ k′. decimalFrom k′ bs)
 
-abbrev pub valued : Reading → (Decimal → Setting) → Setting
+abbrev pub valued : Reading → (Decimal → Worth) → Worth
 valued (On k) f = f k
 valued Off f = Bad
 
@@ -52,17 +52,17 @@ abbrev pub unitsOf : Decimal → ℕ
 unitsOf k = k .value * 10 ^ (4 - k .part)
 
 -- "at most 86400 seconds"; a digit at least, and one after a point
-unfoldable pub timeEnd : Decimal → Setting
+unfoldable pub timeEnd : Decimal → Worth
 timeEnd k =
     pick (ltb 0 (k .whole) && (not (k .point) || ltb 0 (k .part)) && leb (unitsOf k) longestTime) (Value (unitsOf k)) Bad
 
-unfoldable pub timeOf : List ℕ → Setting
+unfoldable pub timeOf : List ℕ → Worth
 timeOf w = valued (decimalFrom blank w) timeEnd
 
 -- "Limit count: one to five digits, 0 to 65,535"
-unfoldable pub countEnd : Decimal → Setting
+unfoldable pub countEnd : Decimal → Worth
 countEnd k =
     pick (ltb 0 (k .whole) && leb (k .whole) 5 && not (k .point) && leb (k .value) maxCount) (Value (k .value)) Bad
 
-unfoldable pub countOf : List ℕ → Setting
+unfoldable pub countOf : List ℕ → Worth
 countOf w = valued (decimalFrom blank w) countEnd

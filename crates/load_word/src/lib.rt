@@ -3,8 +3,9 @@ use service::Kind;
 use service::LAST_SIGNAL;
 use service::LONGEST_TIME;
 use service::MAX_COUNT;
-use service::kind_at;
+use service::Settings;
 use service::kind_number;
+use service::signal_at;
 use load_text::is_digit;
 use load_text::is_name_byte;
 use load_text::same_bytes;
@@ -12,20 +13,63 @@ ghost use mathlib.Core.Path.{_≡_};
 ghost use mathlib.Core.Bool.{true};
 ghost use Prim.Native.Nat.{_-_, _^_, _≤_};
 ghost use Rattle.load_text.specs.Bytes.{isDigit};
-ghost use Rattle.load_word.specs.Words.{flagOf, noOf, kindValue, kindFrom, kindOf, signalOf, nameBytes, isName};
+ghost use Rattle.load_word.specs.Words.{flagOf, noOf, kindOf, signalOf, nameBytes, isName};
 ghost use Rattle.load_word.specs.Decimals.{Sane, blank, digitOf, readOf, decimalFrom, timeOf, countOf};
 ghost use Rattle.load_word.specs.Properties.{propertyOf, settingOf};
 
 // The longest name of a service.
 pub const LONGEST_NAME: usize = 32;
 
+// How many properties there are.
+const PROPERTIES: usize = 14;
+
 // How many signals there are.
 const SIGNALS: usize = LAST_SIGNAL as usize + 1;
 
-// A setting as a number, or a value outside its property's rule.
+// A property by what its value is: the type; a word that the settings hold; a command; the name of a service that is depended on.
+pub enum Property {
+    Kind,
+    Setting(Setting),
+    Command(Command),
+    Link(Link),
+    Unknown,
+}
+
+// The properties whose value is a word that the settings hold, each by paper 01's name.
 pub enum Setting {
+    Restart,
+    SmoothRecovery,
+    RestartDelay,
+    RestartLimitInterval,
+    RestartLimitCount,
+    StartTimeout,
+    StopTimeout,
+    TermSignal,
+}
+
+// Those whose value is kept: command and stop-command.
+pub enum Command {
+    Start,
+    Stop,
+}
+
+// Those whose value names a service.
+pub enum Link {
+    DependsOn,
+    DependsMs,
+    WaitsFor,
+}
+
+// What a word is worth to a rule: a number, or it is outside the rule.
+pub enum Worth {
     Value(u64),
     Bad,
+}
+
+// What a setting's word does: the settings with its value, or it is outside the rule.
+pub enum Change {
+    To(Settings),
+    Refused,
 }
 
 // A decimal number as it is read: its digits before and after the point, their value without the point, a point.
@@ -42,11 +86,11 @@ pub enum Reading {
     Off,
 }
 
-// The number of a property by its name, or 14 where there is none of that name.
-pub fn property(name: &[u8]) -> usize
+// The property of a name.
+pub fn find_property(name: &[u8]) -> Property
     ensures { λ r. ⌜ r ≡ propertyOf (now (name .entry)) ⌝ }
 {
-    let names: [&[u8]; 14] = [
+    let names: [&[u8]; PROPERTIES] = [
         b"type",
         b"command",
         b"stop-command",
@@ -62,79 +106,78 @@ pub fn property(name: &[u8]) -> usize
         b"waits-for",
         b"term-signal",
     ];
+    let properties: [Property; PROPERTIES] = [
+        Property::Kind,
+        Property::Command(Command::Start),
+        Property::Command(Command::Stop),
+        Property::Setting(Setting::Restart),
+        Property::Setting(Setting::SmoothRecovery),
+        Property::Setting(Setting::RestartDelay),
+        Property::Setting(Setting::RestartLimitInterval),
+        Property::Setting(Setting::RestartLimitCount),
+        Property::Setting(Setting::StartTimeout),
+        Property::Setting(Setting::StopTimeout),
+        Property::Link(Link::DependsOn),
+        Property::Link(Link::DependsMs),
+        Property::Link(Link::WaitsFor),
+        Property::Setting(Setting::TermSignal),
+    ];
     let mut k: usize = 0;
-    while k < 14 {
+    while k < PROPERTIES {
         let n = names[k];
         let found = same_bytes(name, n);
         if found {
-            return k;
+            return properties[k];
         }
         k += 1;
     }
-    k
+    Property::Unknown
 }
 
 // Yes or no.
-fn read_flag(word: &[u8]) -> Setting
+fn read_flag(word: &[u8]) -> Worth
     ensures { λ r. ⌜ r ≡ flagOf (now (word .entry)) ⌝ }
 {
     if same_bytes(word, b"yes") {
-        return Setting::Value(1);
+        return Worth::Value(1);
     }
     if same_bytes(word, b"true") {
-        return Setting::Value(1);
+        return Worth::Value(1);
     }
     read_no(word)
 }
 
 // No, and nothing else.
-fn read_no(word: &[u8]) -> Setting
+fn read_no(word: &[u8]) -> Worth
     ensures { λ r. ⌜ r ≡ noOf (now (word .entry)) ⌝ }
 {
     if same_bytes(word, b"no") {
-        return Setting::Value(0);
+        return Worth::Value(0);
     }
     if same_bytes(word, b"false") {
-        return Setting::Value(0);
+        return Worth::Value(0);
     }
-    Setting::Bad
+    Worth::Bad
 }
 
-// A type as the value of its property: one more than its number, since 0 stands for no type.
-fn kind_value(k: Kind) -> u64
-    ensures { λ n. ⌜ n ≡ kindValue k ⌝ }
-{
-    kind_number(k) + 1
-}
-
-// The type of such a value.
-pub fn kind_from(n: u64) -> Kind
-    ensures { λ k. ⌜ k ≡ kindFrom n ⌝ }
-{
-    if n == 0 {
-        return Kind::Internal;
-    }
-    kind_at(n - 1)
-}
-
-// A type.
-fn read_kind(word: &[u8]) -> Setting
+// A type by its number.
+pub fn read_kind(word: &[u8]) -> Worth
     ensures { λ r. ⌜ r ≡ kindOf (now (word .entry)) ⌝ }
 {
     if same_bytes(word, b"process") {
-        return Setting::Value(kind_value(Kind::Process));
+        return Worth::Value(kind_number(Kind::Process));
     }
     if same_bytes(word, b"scripted") {
-        return Setting::Value(kind_value(Kind::Scripted));
+        return Worth::Value(kind_number(Kind::Scripted));
     }
     if same_bytes(word, b"internal") {
-        return Setting::Value(kind_value(Kind::Internal));
+        return Worth::Value(kind_number(Kind::Internal));
     }
-    Setting::Bad
+    Worth::Bad
 }
 
 // A signal by its number.
-fn read_signal(word: &[u8]) -> Setting
+fn read_signal(word: &[u8]) -> Worth
     ensures { λ r. ⌜ r ≡ signalOf (now (word .entry)) ⌝ }
 {
     let names: [&[u8]; SIGNALS] = [
@@ -152,11 +195,11 @@ fn read_signal(word: &[u8]) -> Setting
         let n = names[k];
         let found = same_bytes(word, n);
         if found {
-            return Setting::Value(k as u64);
+            return Worth::Value(k as u64);
         }
         k += 1;
     }
-    Setting::Bad
+    Worth::Bad
 }
 
 // A digit more.
@@ -250,33 +293,33 @@ fn scale(part: usize) -> u64
 }
 
 // A time in units of 0.1 ms.
-fn read_time(word: &[u8]) -> Setting
+fn read_time(word: &[u8]) -> Worth
     ensures { λ r. ⌜ r ≡ timeOf (now (word .entry)) ⌝ }
 {
     let Reading::On(k) = read_decimal(word) else {
-        return Setting::Bad;
+        return Worth::Bad;
     };
     let part = k.part;
     let units = k.value * scale(part);
     let good = (0 < k.whole) & (!k.point | (0 < part)) & (units <= LONGEST_TIME);
     if good {
-        return Setting::Value(units);
+        return Worth::Value(units);
     }
-    Setting::Bad
+    Worth::Bad
 }
 
 // A limit count.
-fn read_limit(word: &[u8]) -> Setting
+fn read_limit(word: &[u8]) -> Worth
     ensures { λ r. ⌜ r ≡ countOf (now (word .entry)) ⌝ }
 {
     let Reading::On(k) = read_decimal(word) else {
-        return Setting::Bad;
+        return Worth::Bad;
     };
     let good = (0 < k.whole) & (k.whole <= 5) & !k.point & (k.value <= MAX_COUNT);
     if good {
-        return Setting::Value(k.value);
+        return Worth::Value(k.value);
     }
-    Setting::Bad
+    Worth::Bad
 }
 
 // All bytes are those of a name.
@@ -303,33 +346,59 @@ pub fn is_name(s: &[u8]) -> bool
     (0 < s.len()) & (s.len() <= LONGEST_NAME) & name_bytes(s)
 }
 
-// The setting of a property that is neither a command nor a dependency; of any other none.
-pub fn read_setting(property: usize, word: &[u8]) -> Setting
-    ensures { λ r. ⌜ r ≡ settingOf property (now (word .entry)) ⌝ }
+// The settings with a word as the value of one of them.
+pub fn read_setting(s: Setting, word: &[u8], v: Settings) -> Change
+    ensures { λ r. ⌜ r ≡ settingOf s (now (word .entry)) v ⌝ }
 {
-    let typed = property == 0;
-    let restarts = property == 3;
-    let smooth = property == 4;
-    let limits = property == 7;
-    let signals = property == 13;
-    let timed = (property == 5) | (property == 6) | (property == 8) | (property == 9);
-    if typed {
-        return read_kind(word);
+    let mut next = v;
+    match s {
+        Setting::Restart => {
+            let Worth::Value(n) = read_flag(word) else {
+                return Change::Refused;
+            };
+            next.restart = n == 1;
+        }
+        Setting::SmoothRecovery => {
+            let Worth::Value(_) = read_no(word) else {
+                return Change::Refused;
+            };
+        }
+        Setting::RestartDelay => {
+            let Worth::Value(n) = read_time(word) else {
+                return Change::Refused;
+            };
+            next.delay = n;
+        }
+        Setting::RestartLimitInterval => {
+            let Worth::Value(n) = read_time(word) else {
+                return Change::Refused;
+            };
+            next.interval = n;
+        }
+        Setting::RestartLimitCount => {
+            let Worth::Value(n) = read_limit(word) else {
+                return Change::Refused;
+            };
+            next.limit = n;
+        }
+        Setting::StartTimeout => {
+            let Worth::Value(n) = read_time(word) else {
+                return Change::Refused;
+            };
+            next.start_timeout = n;
+        }
+        Setting::StopTimeout => {
+            let Worth::Value(n) = read_time(word) else {
+                return Change::Refused;
+            };
+            next.stop_timeout = n;
+        }
+        Setting::TermSignal => {
+            let Worth::Value(n) = read_signal(word) else {
+                return Change::Refused;
+            };
+            next.signal = signal_at(n);
+        }
     }
-    if restarts {
-        return read_flag(word);
-    }
-    if smooth {
-        return read_no(word);
-    }
-    if limits {
-        return read_limit(word);
-    }
-    if signals {
-        return read_signal(word);
-    }
-    if timed {
-        return read_time(word);
-    }
-    Setting::Bad
+    Change::To(next)
 }

@@ -17,8 +17,9 @@ use Rattle.rules.specs.Events.{afterClock, afterStart, each, startReaches}
 use Rattle.rules.specs.Rules.{act, actOn, chosen, chosenFrom, due, fits, hands, leaves, lostToUser, nextAction}
 use Rattle.rules.specs.Runs.{earliest}
 use Rattle.rules.specs.WellFormed.{formed, shapedAt, stateFormed, tableFormed}
+use Rattle.service.specs.Numbers.{settingsFrom}
 use Rattle.plain_encoding.specs.Meaning.{isRecord, isSettings, isState, isTable, standAs}
-use Rattle.plain_encoding.specs.Numbers.{allNumbers, perPlace, placeOf, recordFrom, settingsFrom, stateNumbers, stateOf, tableOf}
+use Rattle.plain_encoding.specs.Numbers.{allNumbers, perPlace, placeOf, recordFrom, stateNumbers, stateOf, tableOf}
 use Rattle.load_lent.specs.declared.Answer.the-variants.{Accepted, Refused}
 use Rattle.plain.specs.Calls.{askedOf, callOf, nextOf, numbersAfter, on, refusalOf}
 use Rattle.plain.specs.Loads.{counted, loadOf}

@@ -14,10 +14,11 @@ use Rattle.base.proofs.Filled.{Filled, filled-more, filled-none}
 use Rattle.base.proofs.Tests.{and-true}
 use Rattle.service.specs.Limits.{maxServices}
 use Rattle.service.specs.Records.{freshRecord, recordAt}
-use Rattle.service.specs.Settings.{defaultSettings, noSettings, settingsAt}
+use Rattle.service.specs.Settings.{defaultSettings, settingsAt}
+use Rattle.service.specs.Numbers.{settingsFrom, settingsNumbers}
 use Rattle.plain_encoding.specs.Meaning.{isRecord, isSettings, isState, isTable, standAs}
 use Rattle.plain_encoding.specs.Numbers.{headed, perPlace, placeOf, placed}
-use Rattle.plain_encoding.specs.Numbers.{recordFrom, recordNumbers, settingsFrom, settingsNumbers, stateNumbers, stateOf, tableNumbers, tableOf}
+use Rattle.plain_encoding.specs.Numbers.{recordFrom, recordNumbers, stateNumbers, stateOf, tableNumbers, tableOf}
 
 -- ---- steps that leave all as it was
 
@@ -71,6 +72,6 @@ state-back l h =
 pub table-back : (l : List ℕ) → isTable l ≡ true → tableNumbers l (tableOf l) ≡ l
 unfolding isTable isSettings tableNumbers tableOf settingsAt
 table-back l h =
-    let read = read-at (λ s. settingsFrom l (placeOf s)) (replicate maxServices defaultSettings) noSettings maxServices refl maxServices (omega arith) in
+    let read = read-at (λ s. settingsFrom l (placeOf s)) (replicate maxServices defaultSettings) defaultSettings maxServices refl maxServices (omega arith) in
     same-written l (λ s. isSettings l (placeOf s)) (λ s. settingsNumbers (settingsAt (tableOf l) s))
     (λ s q e. ap (λ v. standAs l (placeOf s) (settingsNumbers v)) (read .at s q) ∙ e) h

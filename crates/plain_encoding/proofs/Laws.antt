@@ -11,7 +11,8 @@ use Rattle.service.specs.Records.{freshRecord}
 use Rattle.service.specs.Settings.{defaultSettings}
 use Rattle.service.specs.declared.Record.{Record}
 use Rattle.service.specs.declared.Settings.{Settings}
-use Rattle.plain_encoding.specs.Numbers.{placeOf, placed, recordFrom, stateOf, settingsFrom, tableOf}
+use Rattle.service.specs.Numbers.{settingsFrom}
+use Rattle.plain_encoding.specs.Numbers.{placeOf, placed, recordFrom, stateOf, tableOf}
 
 -- b is a with F j at each place j below i, of n
 pub record Reading {A : Type 0} (F : ℕ → A) (a : List A) (n : ℕ) (b : List A) (i : ℕ) : Type 0 where

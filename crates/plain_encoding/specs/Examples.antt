@@ -7,7 +7,7 @@ use mathlib.Core.Path.{_≡_, refl}
 use lib.ListN.{replicate, set}
 use Rattle.base.specs.Folds.{every}
 use Rattle.service.specs.Limits.{maxServices}
-use Rattle.service.specs.Numbers.{lastCause, lastKind, lastPhase, lastSignal}
+use Rattle.service.specs.Numbers.{lastCause, lastKind, lastPhase, lastSignal, settingsFrom, settingsNumbers}
 use Rattle.service.specs.Records.{freshRecord, freshState, moved, withCount, withLaunch, withLive}
 use Rattle.service.specs.Settings.{defaultSettings}
 use Rattle.service.specs.declared.Cause.the-variants.{User}
@@ -15,7 +15,7 @@ use Rattle.service.specs.declared.Deadline.the-variants.{At}
 use Rattle.service.specs.declared.Phase.the-variants.{Ending}
 use Rattle.service.specs.declared.Record.{Record}
 use Rattle.plain_encoding.specs.Meaning.{isRecord, isSettings, isState, isTable, standAs}
-use Rattle.plain_encoding.specs.Numbers.{allNumbers, perPlace, placeOf, recordFrom, recordNumbers, settingsFrom, settingsNumbers, stateOf}
+use Rattle.plain_encoding.specs.Numbers.{allNumbers, perPlace, placeOf, recordFrom, recordNumbers, stateOf}
 
 abbrev pub ended : Record
 ended = withCount 2 (withLaunch 40000 (withLive true (moved Ending User (At 150000) freshRecord)))

@@ -8,7 +8,8 @@ use lib.Dec.{eqb}
 use lib.ListN.{getD}
 use Rattle.base.specs.Folds.{every}
 use Rattle.service.specs.Limits.{maxServices}
-use Rattle.plain_encoding.specs.Numbers.{perPlace, placeOf, recordFrom, recordNumbers, settingsFrom, settingsNumbers}
+use Rattle.service.specs.Numbers.{settingsFrom, settingsNumbers}
+use Rattle.plain_encoding.specs.Numbers.{perPlace, placeOf, recordFrom, recordNumbers}
 
 -- the numbers of the place from a on are vs
 unfoldable pub standAs : List ℕ → ℕ → List ℕ → Bool

@@ -4,14 +4,13 @@ use mathlib.Core.List.{List, [], _∷_}
 use lib.ListN.{getD, set, replicate}
 use Rattle.base.specs.Folds.{fold}
 use Rattle.service.specs.Limits.{maxServices}
-use Rattle.service.specs.Numbers.{causeAt, causeNumber, kindAt, kindNumber, phaseAt, phaseNumber, signalAt, signalNumber}
+use Rattle.service.specs.Numbers.{causeAt, causeNumber, flagNumber, flagOf, phaseAt, phaseNumber, settingsFrom, settingsNumbers}
 use Rattle.service.specs.Records.{freshRecord, recordAt}
 use Rattle.service.specs.Settings.{defaultSettings, settingsAt}
 use Rattle.service.specs.declared.Record.{Record}
-use Rattle.service.specs.declared.Settings.{Settings}
 use Rattle.service.specs.declared.State.{State}
 use Rattle.service.specs.declared.Table.{Table}
-use Rattle.plain_encoding.specs.Values.{deadlineOf, flagNumber, flagOf, timed, timeOf}
+use Rattle.plain_encoding.specs.Values.{deadlineOf, timed, timeOf}
 
 -- in front stands the count of services or the clock, and a 0
 abbrev pub inFront : ℕ
@@ -85,43 +84,6 @@ stateOf l = record {
 }
 
 -- ---- the table
-
--- the settings in paper 01's order, those of the dependencies as sets; last whether there is a stop-command
-abbrev pub settingsNumbers : Settings → List ℕ
-settingsNumbers v =
-    kindNumber (v .kind)
-    ∷ flagNumber (v .restart)
-    ∷ v .delay
-    ∷ v .interval
-    ∷ v .limit
-    ∷ v .«start_timeout»
-    ∷ v .«stop_timeout»
-    ∷ signalNumber (v .signal)
-    ∷ v .hard
-    ∷ v .milestone
-    ∷ v .soft
-    ∷ flagNumber (v .«has_stop»)
-    ∷ 0
-    ∷ 0
-    ∷ 0
-    ∷ 0
-    ∷ []
-
-unfoldable pub settingsFrom : List ℕ → ℕ → Settings
-settingsFrom l a = record {
-  kind = kindAt (getD l a 0);
-  restart = flagOf (getD l (a + 1) 0);
-  «has_stop» = flagOf (getD l (a + 11) 0);
-  signal = signalAt (getD l (a + 7) 0);
-  delay = getD l (a + 2) 0;
-  interval = getD l (a + 3) 0;
-  limit = getD l (a + 4) 0;
-  «start_timeout» = getD l (a + 5) 0;
-  «stop_timeout» = getD l (a + 6) 0;
-  hard = getD l (a + 8) 0;
-  milestone = getD l (a + 9) 0;
-  soft = getD l (a + 10) 0;
-}
 
 unfoldable pub tableNumbers : List ℕ → Table → List ℕ
 tableNumbers l t = fold (λ m s. placed m (placeOf s) (settingsNumbers (settingsAt t s))) (headed l (t .count)) maxServices

@@ -1,16 +1,10 @@
--- Flags and deadlines by number, and back.
+-- Deadlines by number, and back.
 use Prim.Native.Nat.{ℕ}
 use mathlib.Core.Bool.{Bool, true, false}
-use lib.Dec.{eqb}
 use Rattle.base.specs.Folds.{pick}
+use Rattle.service.specs.Numbers.{flagOf}
 use Rattle.service.specs.declared.Deadline.{Deadline}
 use Rattle.service.specs.declared.Deadline.the-variants.{None as NoDeadline, At}
-
-abbrev pub flagNumber : Bool → ℕ
-flagNumber b = pick b 1 0
-
-abbrev pub flagOf : ℕ → Bool
-flagOf n = eqb n 1
 
 -- a deadline is two numbers: whether there is one, and its time
 abbrev pub timed : Deadline → Bool

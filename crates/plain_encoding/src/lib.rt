@@ -23,9 +23,10 @@ ghost use Prim.Native.Nat.{_+_, _≤_};
 ghost use lib.ListN.{set};
 ghost use Rattle.base.specs.Folds.{fold};
 ghost use Rattle.service.specs.Limits.{maxServices};
-ghost use Rattle.plain_encoding.specs.Values.{flagNumber, timed, timeOf, deadlineOf};
+ghost use Rattle.service.specs.Numbers.{flagNumber, settingsFrom, settingsNumbers};
+ghost use Rattle.plain_encoding.specs.Values.{timed, timeOf, deadlineOf};
 ghost use Rattle.plain_encoding.specs.Numbers.{allNumbers, perPlace, placeOf, placed};
-ghost use Rattle.plain_encoding.specs.Numbers.{recordNumbers, recordFrom, stateNumbers, stateOf, settingsNumbers, settingsFrom, tableNumbers, tableOf};
+ghost use Rattle.plain_encoding.specs.Numbers.{recordNumbers, recordFrom, stateNumbers, stateOf, tableNumbers, tableOf};
 
 // How many numbers stand before those of the places.
 pub const FRONT: usize = 2;

@@ -1,13 +1,16 @@
--- The numbers of types, signals, phases, causes, refusals and actions: the first four from 0 in paper 01's order, and back; a number past a
+-- The numbers of types, signals, phases, causes, refusals, actions and settings: the first four from 0 in paper 01's order, and back; a number past a
 -- list's last stands for none, and is read as the last.
 use Prim.Native.Nat.{ℕ, zero, suc, _+_}
 use mathlib.Core.Bool.{Bool, true, false}
+use mathlib.Core.List.{List, [], _∷_}
 use lib.Dec.{eqb}
+use lib.ListN.{getD, set}
 use Rattle.base.specs.Folds.{pick}
 use Rattle.service.specs.declared.Kind.{Kind}
 use Rattle.service.specs.declared.Kind.the-variants.{Process, Scripted, Internal}
 use Rattle.service.specs.declared.Signal.{Signal as SignalName}
 use Rattle.service.specs.declared.Signal.the-variants.{None as NoSignal, Hup, Int, Term, Quit, Usr1, Usr2, Kill}
+use Rattle.service.specs.declared.Settings.{Settings}
 use Rattle.service.specs.declared.Phase.{Phase}
 use Rattle.service.specs.declared.Phase.the-variants.{Down, Waiting, Starting, Up, Ending}
 use Rattle.service.specs.declared.Cause.{Cause}
@@ -116,3 +119,51 @@ refusalNumber NotLive = 21
 refusalNumber ClockBack = 22
 refusalNumber ClockPast = 23
 refusalNumber NoRoom = 25
+
+-- a flag
+abbrev pub flagNumber : Bool → ℕ
+flagNumber b = pick b 1 0
+
+abbrev pub flagOf : ℕ → Bool
+flagOf n = eqb n 1
+
+-- the settings of a service as sixteen numbers: in paper 01's order, those of the dependencies as sets; last whether there is a stop-command
+abbrev pub settingsNumbers : Settings → List ℕ
+settingsNumbers v =
+    kindNumber (v .kind)
+    ∷ flagNumber (v .restart)
+    ∷ v .delay
+    ∷ v .interval
+    ∷ v .limit
+    ∷ v .«start_timeout»
+    ∷ v .«stop_timeout»
+    ∷ signalNumber (v .signal)
+    ∷ v .hard
+    ∷ v .milestone
+    ∷ v .soft
+    ∷ flagNumber (v .«has_stop»)
+    ∷ 0
+    ∷ 0
+    ∷ 0
+    ∷ 0
+    ∷ []
+
+unfoldable pub settingsFrom : List ℕ → ℕ → Settings
+settingsFrom l a = record {
+  kind = kindAt (getD l a 0);
+  restart = flagOf (getD l (a + 1) 0);
+  «has_stop» = flagOf (getD l (a + 11) 0);
+  signal = signalAt (getD l (a + 7) 0);
+  delay = getD l (a + 2) 0;
+  interval = getD l (a + 3) 0;
+  limit = getD l (a + 4) 0;
+  «start_timeout» = getD l (a + 5) 0;
+  «stop_timeout» = getD l (a + 6) 0;
+  hard = getD l (a + 8) 0;
+  milestone = getD l (a + 9) 0;
+  soft = getD l (a + 10) 0;
+}
+
+-- the settings v with the number n at the place k among theirs
+abbrev pub withNumber : ℕ → ℕ → Settings → Settings
+withNumber k n v = settingsFrom (set (settingsNumbers v) k n) 0

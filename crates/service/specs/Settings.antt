@@ -7,7 +7,7 @@ use Rattle.service.specs.declared.Kind.{Kind}
 use Rattle.service.specs.declared.Kind.the-variants.{Process, Scripted, Internal}
 use Rattle.service.specs.declared.Form.{Form}
 use Rattle.service.specs.declared.Form.the-variants.{Bare, Passing, Direct, Delayed}
-use Rattle.service.specs.declared.Signal.the-variants.{None as NoSignal, Term}
+use Rattle.service.specs.declared.Signal.the-variants.{Term}
 use Rattle.service.specs.declared.Settings.{Settings}
 use Rattle.service.specs.declared.Table.{Table}
 use Rattle.service.specs.Limits.{maxServices, defaultDelay, defaultInterval, defaultLimit, defaultStartTimeout, defaultStopTimeout}
@@ -81,23 +81,6 @@ process h = defaultsWith Process true h
 abbrev pub noServices : Table
 noServices = record { count = 0; services = replicate maxServices defaultSettings }
 
--- what is read past the table's last place, which is nowhere asked for
-abbrev pub noSettings : Settings
-noSettings = record {
-  kind = Process;
-  restart = false;
-  «has_stop» = false;
-  signal = NoSignal;
-  delay = 0;
-  interval = 0;
-  limit = 0;
-  «start_timeout» = 0;
-  «stop_timeout» = 0;
-  hard = 0;
-  milestone = 0;
-  soft = 0;
-}
-
--- the settings of service s
+-- the settings of service s; past the table's last place, where nothing asks, the default ones
 unfoldable pub settingsAt : Table → ℕ → Settings
-settingsAt t s = getD (t .services) s noSettings
+settingsAt t s = getD (t .services) s defaultSettings

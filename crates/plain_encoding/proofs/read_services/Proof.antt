@@ -2,7 +2,8 @@
 use borrow.Author.Needs.{needs}
 use Prim.Native.Nat.{_-_}
 use Rattle.service.specs.Limits.{maxServices}
-use Rattle.plain_encoding.specs.Numbers.{placeOf, settingsFrom}
+use Rattle.service.specs.Numbers.{settingsFrom}
+use Rattle.plain_encoding.specs.Numbers.{placeOf}
 use Rattle.plain_encoding.proofs.Laws.{Reading, reading-none, reading-more, reading-all}
 use Rattle.plain_encoding.proofs.read_services.Statement.{statement}
 use Rattle.plain_encoding.proofs.read_services.Tie as tie

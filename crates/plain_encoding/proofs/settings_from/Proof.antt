@@ -1,6 +1,6 @@
 -- `settings_from` meets its contract: field by field. Each line of needs is that of one number, or of one call.
 use borrow.Author.Needs.{needs}
-use Rattle.plain_encoding.specs.Numbers.{settingsFrom}
+use Rattle.service.specs.Numbers.{settingsFrom}
 use Rattle.plain_encoding.proofs.settings_from.Statement.{statement}
 use Rattle.plain_encoding.proofs.settings_from.Tie as tie
 

@@ -3,7 +3,8 @@ use borrow.Author.Needs.{needs}
 use Prim.Native.Nat.{_-_}
 use Rattle.service.specs.Limits.{maxServices}
 use Rattle.service.specs.Settings.{settingsAt}
-use Rattle.plain_encoding.specs.Numbers.{settingsNumbers, tableNumbers}
+use Rattle.service.specs.Numbers.{settingsNumbers}
+use Rattle.plain_encoding.specs.Numbers.{tableNumbers}
 use Rattle.plain_encoding.proofs.Laws.{Writing, writing-none, writing-more, writing-all}
 use Rattle.plain_encoding.proofs.write_table.Statement.{statement}
 use Rattle.plain_encoding.proofs.write_table.Tie as tie

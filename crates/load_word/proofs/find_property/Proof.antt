@@ -1,4 +1,4 @@
--- `property` meets its contract: the place among the names that are left.
+-- `find_property` meets its contract: the place among the names that are left.
 use mathlib.Core.Path.{_≡_, refl, sym, ap, _∙_}
 use Prim.Native.Nat.{_≤_, _-_}
 use lib.ListN.{drop}
@@ -6,8 +6,8 @@ use Rattle.load_text.specs.Strings.{same, indexFrom}
 use Rattle.load_word.specs.Properties.{propertyNames, propertyOf}
 use Rattle.load_text.proofs.Strings.{index-end, index-next, at-now}
 use borrow.Author.Needs.{needs}
-use Rattle.load_word.proofs.property.Statement.{statement}
-use Rattle.load_word.proofs.property.Tie as tie
+use Rattle.load_word.proofs.find_property.Statement.{statement}
+use Rattle.load_word.proofs.find_property.Tie as tie
 
 abbrev Inv-loop : tie.InvT-loop
 Inv-loop name names k₀ k = (k ≤ 14) × (indexFrom name 0 propertyNames ≡ indexFrom name k (drop k propertyNames))
@@ -31,8 +31,8 @@ returns-2 : tie.Need-returns-2 Inv-loop μ-loop
 unfolding propertyOf propertyNames
 returns-2 c = sym (c .before .loop .inv .1 ∙ index-end _ _ _ _ (c .loop-test .left))
 
-pub property-spec : {M : Type 1} → statement M
-property-spec =
+pub find-property-spec : {M : Type 1} → statement M
+find-property-spec =
     tie.close
     (tie.spec
     Inv-loop
