@@ -2,3 +2,4 @@
 pub mod Scans
 pub mod Writing
 pub mod Loops
+pub mod Counts
