@@ -3,3 +3,4 @@ pub mod Scans
 pub mod Writing
 pub mod Loops
 pub mod Counts
+pub mod Spaced
