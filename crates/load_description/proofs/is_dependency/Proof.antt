@@ -12,17 +12,26 @@ use Rattle.load_description.proofs.is_dependency.Tie as tie
 
 returns : tie.Need-returns
 returns c =
+    let at-part = c .before in
+    let at-word = at-part .before .before .before in
+    let at-test = at-word .before .before in
+    let at-kinds = at-test .before in
+    let w = at-kinds .before .before .before .before .args .word in
     c .same-bytes .ensures
-    ∙ ap (λ (l : List ℕ). same l (now (c .before .before .before .before .before .before .before .before .before .before .args .word))) (c .before .part .ensures ∙ puts-part (word-at-fits _ _) (c .before .before .before .before .write-word-at .ensures))
-    ∙ rw (c .before .before .before .before .before .before .if1 .taken)
+    ∙ ap (λ (l : List ℕ). same l (now w)) (at-part .part .ensures ∙ puts-part (word-at-fits _ _) (at-word .write-word-at .ensures))
+    ∙ rw (← at-kinds .before .link-number .ensures, ← at-kinds .link-number2 .ensures, at-test .if1 .taken)
 
 returns-2 : tie.Need-returns-2
-returns-2 c = rw (c .if1 .left)
+returns-2 c =
+    let at-kinds = c .before in
+    rw (← at-kinds .before .link-number .ensures, ← at-kinds .link-number2 .ensures, c .if1 .left)
 
 pub is-dependency-spec : {M : Type 1} → statement M
 is-dependency-spec =
     tie.close
     (tie.spec
+    (λ c κs. search needs)
+    (λ c κs. search needs)
     (λ c. search needs)
     (λ c κs. search needs)
     (λ c. search needs)
