@@ -1,4 +1,4 @@
--- The worked examples of times in paper 01, and readings of other words beside them: one table, one statement.
+-- Readings of words beside paper 01's worked examples, which crates/guarantee states: one table, one statement.
 use Prim.Native.Nat.{ℕ}
 use Prim.Native.String.{String}
 use mathlib.Core.Bool.{true}
@@ -37,13 +37,6 @@ changeOf Unknown w = Refused
 
 abbrev pub examples : List Example
 examples =
-    -- "P times"
-    record { property = "restart-delay"; word = "0.2"; is = at 2 2000 } ∷
-    record { property = "restart-delay"; word = "86400"; is = at 2 864000000 } ∷
-    record { property = "restart-delay"; word = "86400.0001"; is = Refused } ∷
-    record { property = "restart-delay"; word = ".5"; is = Refused } ∷
-    record { property = "restart-delay"; word = "5."; is = Refused } ∷
-    record { property = "restart-delay"; word = "0.00001"; is = Refused } ∷
     -- digits are counted as written
     record { property = "start-timeout"; word = "000005.5000"; is = at 5 55000 } ∷
     record { property = "stop-timeout"; word = "086400"; is = at 6 864000000 } ∷
