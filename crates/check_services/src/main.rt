@@ -9,7 +9,7 @@ use loader::Loaded;
 use service::Kind;
 use service::MAX_SERVICES;
 use service::Table;
-use load_word::LONGEST_NAME;
+use load_text::LONGEST_NAME;
 ghost use Prim.Native.Nat.{_≤_};
 ghost use lib.ListN.{length};
 

@@ -11,7 +11,7 @@ use service::MAX_SERVICES;
 use load_text::line_end;
 use load_text::part;
 use load_text::tail;
-use load_word::LONGEST_NAME;
+use load_text::LONGEST_NAME;
 use scenario_words::number;
 use scenario_words::piece;
 ghost use mathlib.Core.Path.{_≡_};
