@@ -1,8 +1,8 @@
 // The calls of the engine: the events and the query under this crate's name too, and here the fresh state, the next action
 // and a run to quiet. The table and the state go by value: a call copies them a few times, and list 24 is judged once in each
 // call, a run too.
-use engine_actions::hand_out;
 use base::overlaps;
+use engine_actions::hand_out;
 use engine_choice::Fits;
 use engine_choice::choose;
 use engine_choice::fit;
@@ -13,6 +13,9 @@ pub use engine_events::stop;
 pub use engine_events::stop_all;
 pub use engine_query::query;
 use engine_rule_records::leave;
+use engine_standing::Standing;
+use engine_standing::noted;
+use engine_wellformed::is_formed;
 use rules::Choice;
 use service::Action;
 use service::ActionAnswer;
@@ -24,9 +27,6 @@ use service::Stepped;
 use service::Table;
 use service::action_number;
 use service::action_service;
-use engine_standing::Standing;
-use engine_standing::noted;
-use engine_wellformed::is_formed;
 ghost use mathlib.Core.Path.{_≡_};
 ghost use mathlib.Core.Bool.{true};
 ghost use Prim.Native.Nat.{suc, _≤_};
