@@ -2,13 +2,13 @@
 // the services: the first gathers where they stand, the second whom each rule fits; then the choice is made from the sets.
 use base::lowest;
 use base::single_of;
+use engine_standing::Standing;
+use engine_standing::Which;
+use engine_standing::which_fit;
 use rules::Choice;
 use rules::Rule;
 use service::Record;
 use service::Settings;
-use engine_standing::Standing;
-use engine_standing::Which;
-use engine_standing::which_fit;
 ghost use mathlib.Core.Path.{_≡_};
 ghost use Rattle.engine_choice.specs.Fits.{noFits, addedIn, fittedIn, laterChoice, choiceFrom};
 

@@ -13,6 +13,7 @@ use Rattle.service.specs.Limits.{maxServices, lastClock}
 use Rattle.service.specs.Settings.{settingsAt}
 use Rattle.service.specs.Records.{recordAt, withRecord}
 use Rattle.service.specs.declared.Record.{Record}
+use Rattle.service.specs.declared.Settings.{Settings}
 use Rattle.service.specs.declared.Table.{Table}
 use Rattle.service.specs.declared.State.{State}
 use Rattle.service.specs.declared.Changed.{Changed}
@@ -75,16 +76,16 @@ module _ (t : Table) (x : State) (q : Bool) (w : Changed) where
       let f : formed t x ≡ false = sym e ∙ h in
       rw (d, f)
 
-  pub end-done : (s : ℕ) (good : Bool) (r : Record) → q ≡ formed t x → q ≡ true → s < t .count → recordAt x s .live ≡ true
-      → r ≡ pick (sound (settingsAt t s) (x .clock) (recordAt x s))
-      (endedAs (recordAt x s .phase) (settingsAt t s) (x .clock) (brings (settingsAt t s) good) (recordAt x s)) (recordAt x s)
+  -- v is what the code read of the settings
+  pub end-done : (s : ℕ) (good : Bool) (r : Record) (v : Settings) → v ≡ settingsAt t s → q ≡ formed t x → q ≡ true → s < t .count → recordAt x s .live ≡ true
+      → r ≡ pick (sound v (x .clock) (recordAt x s)) (endedAs (recordAt x s .phase) v (x .clock) (brings v good) (recordAt x s)) (recordAt x s)
       → w ≡ record { answer = Done; state = withRecord x s r } → changedOutcome w ≡ outcome t x (end s good)
   unfolding outcome check afterEnd
-  end-done s good r e h l v a d =
+  end-done s good r v i e h l n a d =
       let f : formed t x ≡ true = sym e ∙ h in
       let b : r ≡ endedAs (recordAt x s .phase) (settingsAt t s) (x .clock) (brings (settingsAt t s) good) (recordAt x s)
-      = a ∙ rw (sound-at t x f s l) in
-      rw (d, b, f, lt-ltb s (t .count) l, v)
+      = a ∙ rw (i, sound-at t x f s l) in
+      rw (d, b, f, lt-ltb s (t .count) l, n)
 
   pub clock-done : (to : ℕ) → q ≡ formed t x → q ≡ true → x .clock ≤ to → to ≤ lastClock
       → w ≡ record { answer = Done; state = record { clock = to; records = x .records } } → changedOutcome w ≡ outcome t x (clock to)

@@ -1,10 +1,10 @@
 // List 24: whether a table and a state are well formed; and what a service reaches by its dependencies.
 use base::is_within;
-use links::has_cycle;
-use links::reach_of;
 use engine_record_tests::is_none;
 use engine_record_tests::lives_up;
 use engine_record_tests::starts_first;
+use links::has_cycle;
+use links::reach_of;
 use service::Cause;
 use service::Deadline;
 use service::Form;

@@ -1,23 +1,37 @@
 -- `end` meets its contract: the checks in order, then the state.
 use Prim.Native.Nat.{_≤_}
+use native.Mathlib.Omega.{arith}
+use mathlib.Core.Path.{_≡_}
+use lib.ListN.{length}
 use borrow.Author.Tests.{lt-ltb, le-ltb}
+use Rattle.base.proofs.Lists.{length-mapped}
 use Rattle.service.specs.Limits.{maxServices}
-use Rattle.service.specs.Settings.{settingsAt}
 use Rattle.service.specs.Records.{recordAt, withRecord}
 use Rattle.rules.specs.Calls.{check, outcome}
 use Rattle.rules.proofs.Formed.{formed-few}
+use Rattle.engine_wellformed.proofs.Read.{settings-read}
 use Rattle.engine_events.proofs.Accepted.{end-done}
 use borrow.Author.Needs.{needs}
 use Rattle.engine_events.proofs.end.Statement.{statement}
 use Rattle.engine_events.proofs.end.Tie as tie
 
--- there is a place for each service
+-- the table has its places, and there is one for each service
+places : (c : tie.Start) → length (c .args .t1 .services) ≡ maxServices
+places c = search (needs, length-mapped)
+
 few : (c : tie.Then1) → c .before .before .args .t1 .count ≤ maxServices
 few c = formed-few _ _ _ (c .before .is-formed .ensures) (c .if1 .taken)
 
 returns : tie.Need-returns
-unfolding recordAt settingsAt withRecord
-returns c = search end-done
+unfolding recordAt withRecord
+returns c =
+    let at-service = c .before .before .before .before .before in
+    let at-test = at-service .before in
+    let at-start = at-test .before .before in
+    let l = few at-test in
+    end-done _ _ _ _ _ _ _ _ (settings-read (at-start .args .t1) _ _ (places at-start) (omega (arith, at-service .if2 .taken, l)))
+    (at-test .before .is-formed .ensures) (at-test .if1 .taken) (at-service .if2 .taken) (c .before .before .if3 .taken) (c .before .end-record .ensures)
+    (c .done .ensures)
 
 returns-2 : tie.Need-returns-2
 unfolding outcome check recordAt
