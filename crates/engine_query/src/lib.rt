@@ -1,11 +1,11 @@
 // The query: the earliest time at which a service may have something to do.
+use engine_wellformed::is_formed;
 use service::Deadline;
 use service::QueryAnswer;
 use service::Record;
 use service::Refusal;
 use service::State;
 use service::Table;
-use engine_wellformed::is_formed;
 ghost use mathlib.Core.Path.{_≡_};
 ghost use Rattle.service.specs.declared.Deadline.the-variants.{At};
 ghost use Rattle.rules.specs.Runs.{above, sooner, soonerOf};

@@ -2,6 +2,8 @@
 use engine_record_tests::is_starting;
 use engine_record_tests::is_user;
 use engine_record_tests::is_waiting;
+use engine_settling::is_sound;
+use engine_settling::settle;
 use rules::Rule;
 use service::Cause;
 use service::Deadline;
@@ -13,8 +15,6 @@ use service::form_of;
 use service::moved;
 use service::with_cause;
 use service::with_phase;
-use engine_settling::is_sound;
-use engine_settling::settle;
 ghost use mathlib.Core.Path.{_≡_};
 ghost use mathlib.Core.Bool.{true, false};
 ghost use Prim.Native.Nat.{_≤_};

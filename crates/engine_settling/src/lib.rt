@@ -1,5 +1,7 @@
 // Settling: the record of a service that has ended, by its cause; a fall counted with the restart window, limit and delay. Beside it what
 // other changes of a record share: the test of its times, and a record at rest.
+use engine_wellformed::settings_in_range;
+use engine_wellformed::times_in_range;
 use service::Cause;
 use service::Deadline;
 use service::LAST_CLOCK;
@@ -7,8 +9,6 @@ use service::Phase;
 use service::Record;
 use service::Settings;
 use service::moved;
-use engine_wellformed::settings_in_range;
-use engine_wellformed::times_in_range;
 ghost use mathlib.Core.Path.{_≡_};
 ghost use mathlib.Core.Bool.{true, false};
 ghost use Prim.Native.Nat.{suc, _-_, _≤_};
