@@ -12,7 +12,7 @@ pub use engine_events::start;
 pub use engine_events::stop;
 pub use engine_events::stop_all;
 pub use engine_query::query;
-use engine_rule_records::leave;
+use engine_records::leave;
 use engine_standing::Standing;
 use engine_standing::noted;
 use engine_wellformed::is_formed;

@@ -1,9 +1,9 @@
 // The events: start, stop, stop all, the end of a process and the clock. Each is a call of its own, with the checks in
 // paper 01's order; a refused call gives back the state it got.
 use base::has_bit;
-use engine_event_records::end_record;
-use engine_event_records::start_record;
-use engine_event_records::stop_record;
+use engine_records::end_record;
+use engine_records::start_record;
+use engine_records::stop_record;
 use engine_wellformed::is_formed;
 use engine_wellformed::reach_set;
 use service::Changed;
