@@ -38,7 +38,7 @@ use Rattle.rules.proofs.Formed.{formed-next, formed-sound, sound-next}
 use Rattle.rules.proofs.Runs.{steps-within}
 use Rattle.rules.proofs.Resting.{rests-everywhere, steps-quiet}
 use Rattle.engine_settling.specs.Sound.{sound}
-use Rattle.engine_standing.specs.declared.Standing.{Standing}
+use Rattle.engine_choice.specs.declared.standing.Standing.{Standing}
 use Rattle.engine_choice.specs.declared.Fits.{Fits}
 use Rattle.engine_choice.specs.Fits.{choiceFrom}
 use Rattle.engine_choice.proofs.Passes.{Fitting, choice-made, user-gathered}

@@ -11,8 +11,8 @@ use Rattle.service.specs.declared.Table.{Table}
 use Rattle.service.specs.declared.State.{State}
 use Rattle.rules.specs.declared.Choice.{Choice}
 use Rattle.rules.specs.Rules.{chosen}
-use Rattle.engine_standing.specs.declared.Standing.{Standing}
-use Rattle.engine_standing.specs.Standing.{nowhere, notedIn, noting, standing}
+use Rattle.engine_choice.specs.declared.standing.Standing.{Standing}
+use Rattle.engine_choice.specs.Standing.{nowhere, notedIn, noting, standing}
 use Rattle.engine_choice.specs.declared.Fits.{Fits}
 use Rattle.engine_choice.specs.Fits.{noFits, fittedIn, fitting, fitted, choiceFrom}
 use Rattle.engine_choice.specs.Lost.{lostByUser}

@@ -10,7 +10,7 @@ use Rattle.service.specs.Settings.{settingsAt}
 use Rattle.service.specs.Records.{recordAt, withRecord}
 use Rattle.service.specs.declared.Settings.{Settings}
 use Rattle.engine_wellformed.proofs.Read.{settings-read}
-use Rattle.engine_standing.specs.Standing.{nowhere, noting}
+use Rattle.engine_choice.specs.Standing.{nowhere, noting}
 use Rattle.engine_choice.proofs.Passes.{Fitting, fitting-none, fitting-more, noting-more}
 use Rattle.engine.proofs.Running.{Running, running-none, running-room, running-all, turn-inside, turn-quiet, turn-on}
 use borrow.Author.Needs.{needs}
