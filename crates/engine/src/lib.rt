@@ -3,17 +3,17 @@
 // table and the state go by value: a call copies them a few times, and list 24 is judged once in each call, a run too.
 use base::overlaps;
 use engine_actions::hand_out;
+pub use engine_calls::clock;
+pub use engine_calls::end;
+pub use engine_calls::query;
+pub use engine_calls::start;
+pub use engine_calls::stop;
+pub use engine_calls::stop_all;
 use engine_choice::Fits;
 use engine_choice::Standing;
 use engine_choice::choose;
 use engine_choice::fit;
 use engine_choice::noted;
-pub use engine_events::clock;
-pub use engine_events::end;
-pub use engine_events::start;
-pub use engine_events::stop;
-pub use engine_events::stop_all;
-pub use engine_query::query;
 use engine_records::leave;
 use engine_wellformed::is_formed;
 use rules::Choice;
