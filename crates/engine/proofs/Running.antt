@@ -37,7 +37,7 @@ use Rattle.rules.specs.Calls.{acted, check, gives, next, outcome, ranOutcome, r
 use Rattle.rules.proofs.Formed.{formed-next, formed-sound, sound-next}
 use Rattle.rules.proofs.Runs.{steps-within}
 use Rattle.rules.proofs.Resting.{rests-everywhere, steps-quiet}
-use Rattle.engine_settling.specs.Sound.{sound}
+use Rattle.engine_records.specs.Sound.{sound}
 use Rattle.engine_choice.specs.declared.standing.Standing.{Standing}
 use Rattle.engine_choice.specs.declared.Fits.{Fits}
 use Rattle.engine_choice.specs.Fits.{choiceFrom}

@@ -24,8 +24,8 @@ use Rattle.rules.specs.WellFormed.{formed}
 use Rattle.rules.specs.Events.{each, startReaches, startedAs, afterStart, stopped, afterStop, afterStopAll, brings, endedAs, afterEnd, afterClock}
 use Rattle.rules.specs.Calls.{start, stop, stopAll, end, clock, check, outcome, changedOutcome}
 use Rattle.rules.proofs.Formed.{formed-few}
-use Rattle.engine_settling.specs.Sound.{sound}
-use Rattle.engine_settling.proofs.Formed.{sound-at}
+use Rattle.engine_records.specs.Sound.{sound}
+use Rattle.engine_records.proofs.Formed.{sound-at}
 
 module _ (t : Table) (x : State) (q : Bool) (w : Changed) where
   -- m is what the code found s to reach

@@ -1,10 +1,10 @@
 // What an event makes of one service's record: start, stop and the end of its process.
+use crate::settling::at_rest;
+use crate::settling::is_sound;
+use crate::settling::settle;
 use engine_record_tests::is_active;
 use engine_record_tests::is_none;
 use engine_record_tests::is_passing;
-use engine_settling::at_rest;
-use engine_settling::is_sound;
-use engine_settling::settle;
 use service::Cause;
 use service::Deadline;
 use service::Phase;
@@ -19,7 +19,7 @@ ghost use Rattle.base.specs.Folds.{pick};
 ghost use Rattle.service.specs.declared.Cause.the-variants.{User, Fell};
 ghost use Rattle.service.specs.Records.{isNone, withCause};
 ghost use Rattle.rules.specs.Events.{revivedCause, startedAs, stoppedPhase, stopped, dead, startedUp, brings, endedAs};
-ghost use Rattle.engine_settling.specs.Sound.{sound};
+ghost use Rattle.engine_records.specs.Sound.{sound};
 
 // User or failed becomes released.
 fn revived(c: Cause) -> Cause

@@ -1,9 +1,9 @@
 // What each rule leaves of one service's record.
+use crate::settling::is_sound;
+use crate::settling::settle;
 use engine_record_tests::is_starting;
 use engine_record_tests::is_user;
 use engine_record_tests::is_waiting;
-use engine_settling::is_sound;
-use engine_settling::settle;
 use rules::Rule;
 use service::Cause;
 use service::Deadline;
@@ -23,7 +23,7 @@ ghost use Rattle.service.specs.declared.Cause.the-variants.{User, Fell, Failed}
 ghost use Rattle.service.specs.Limits.{longestTime, lastClock};
 ghost use Rattle.service.specs.Records.{isStarting, isUser, moved, withCause, withLaunch, withLive};
 ghost use Rattle.rules.specs.Rules.{deadlineIn, abandoned, released, begun, ending, expired, leftBy};
-ghost use Rattle.engine_settling.specs.Sound.{sound, Sound};
+ghost use Rattle.engine_records.specs.Sound.{sound, Sound};
 
 // The deadline at the end of a timeout; none where that is 0.
 fn deadline_in(now: u64, timeout: u64) -> Deadline

@@ -1,5 +1,5 @@
 -- `end_record` meets its contract: each phase by its own arm.
-use Rattle.engine_settling.specs.Sound.{sound}
+use Rattle.engine_records.specs.Sound.{sound}
 use Rattle.rules.specs.Events.{endedAs}
 use borrow.Author.Needs.{needs}
 use Rattle.engine_records.proofs.after_event.end_record.Statement.{statement}

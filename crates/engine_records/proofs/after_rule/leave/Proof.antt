@@ -1,6 +1,6 @@
 -- `leave` meets its contract: what is sound is changed.
 use mathlib.Core.Path.{_∙_, sym}
-use Rattle.engine_settling.proofs.Bounds.{sound-facts}
+use Rattle.engine_records.proofs.Bounds.{sound-facts}
 use borrow.Author.Needs.{needs}
 use Rattle.engine_records.proofs.after_rule.leave.Statement.{statement}
 use Rattle.engine_records.proofs.after_rule.leave.Tie as tie

@@ -1,7 +1,7 @@
 -- `count_sound` meets its contract: the count is that of the window.
 use borrow.Author.Needs.{needs}
-use Rattle.engine_settling.proofs.count_sound.Statement.{statement}
-use Rattle.engine_settling.proofs.count_sound.Tie as tie
+use Rattle.engine_records.proofs.settling.count_sound.Statement.{statement}
+use Rattle.engine_records.proofs.settling.count_sound.Tie as tie
 
 returns : tie.Need-returns
 returns c =

@@ -1,7 +1,7 @@
 -- `is_window_over` meets its contract: by the time since its start.
 use borrow.Author.Needs.{needs}
-use Rattle.engine_settling.proofs.is_window_over.Statement.{statement}
-use Rattle.engine_settling.proofs.is_window_over.Tie as tie
+use Rattle.engine_records.proofs.settling.is_window_over.Statement.{statement}
+use Rattle.engine_records.proofs.settling.is_window_over.Tie as tie
 
 returns : tie.Need-returns
 returns c = rw (c .before .time-since .ensures)

@@ -1,8 +1,8 @@
 -- `settle` meets its contract: what is sound is settled.
 use mathlib.Core.Path.{sym, _∙_}
 use borrow.Author.Needs.{needs}
-use Rattle.engine_settling.proofs.settle.Statement.{statement}
-use Rattle.engine_settling.proofs.settle.Tie as tie
+use Rattle.engine_records.proofs.settling.settle.Statement.{statement}
+use Rattle.engine_records.proofs.settling.settle.Tie as tie
 
 settle-sound-requires : tie.Need-settle-sound-requires
 settle-sound-requires c κs = sym (c .before .is-sound .ensures) ∙ c .if1 .taken

@@ -13,7 +13,7 @@ use Rattle.service.specs.declared.State.{State}
 use Rattle.rules.specs.WellFormed.{settingsInRange, timesInRange, formed}
 use Rattle.rules.proofs.Formed.{formed-parts, state-parts}
 use Rattle.rules.proofs.Links.{table-sound}
-use Rattle.engine_settling.specs.Sound.{sound}
+use Rattle.engine_records.specs.Sound.{sound}
 
 pub sound-at : (t : Table) (x : State) → formed t x ≡ true → (s : ℕ) → s < t .count → sound (settingsAt t s) (x .clock) (recordAt x s) ≡ true
 unfolding sound

@@ -1,8 +1,8 @@
 -- `is_sound` meets its contract: by the tests that it calls.
-use Rattle.engine_settling.specs.Sound.{sound}
+use Rattle.engine_records.specs.Sound.{sound}
 use borrow.Author.Needs.{needs}
-use Rattle.engine_settling.proofs.is_sound.Statement.{statement}
-use Rattle.engine_settling.proofs.is_sound.Tie as tie
+use Rattle.engine_records.proofs.settling.is_sound.Statement.{statement}
+use Rattle.engine_records.proofs.settling.is_sound.Tie as tie
 
 returns : tie.Need-returns
 unfolding sound

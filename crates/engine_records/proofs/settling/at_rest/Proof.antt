@@ -1,7 +1,7 @@
 -- `at_rest` meets its contract: by `moved`.
 use borrow.Author.Needs.{needs}
-use Rattle.engine_settling.proofs.at_rest.Statement.{statement}
-use Rattle.engine_settling.proofs.at_rest.Tie as tie
+use Rattle.engine_records.proofs.settling.at_rest.Statement.{statement}
+use Rattle.engine_records.proofs.settling.at_rest.Tie as tie
 
 returns : tie.Need-returns
 returns c = rw (c .moved .ensures)

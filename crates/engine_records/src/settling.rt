@@ -16,11 +16,11 @@ ghost use Rattle.base.specs.Folds.{pick};
 ghost use Rattle.service.specs.Limits.{maxCount};
 ghost use Rattle.service.specs.declared.Cause.the-variants.{Fell};
 ghost use Rattle.rules.specs.Settling.{windowOver, limitReached, settled, settledAs};
-ghost use Rattle.engine_settling.specs.Sound.{sound, Sound};
-ghost use Rattle.engine_settling.specs.Rest.{atRest, fallCounted};
+ghost use Rattle.engine_records.specs.Sound.{sound, Sound};
+ghost use Rattle.engine_records.specs.Rest.{atRest, fallCounted};
 
 // The times of the record and the settings are in range, and so is the clock.
-pub fn is_sound(v: Settings, now: u64, r: Record) -> bool
+pub(crate) fn is_sound(v: Settings, now: u64, r: Record) -> bool
     ensures { λ b. ⌜ b ≡ sound v now r ⌝ }
 {
     (now <= LAST_CLOCK) & settings_in_range(v) & times_in_range(now, r)
@@ -65,7 +65,7 @@ fn next_count(stays: bool, n: u64) -> u64
 }
 
 // As many restarts have been counted in the window as the limit allows.
-pub fn limit_reached(v: Settings, now: u64, r: Record) -> bool
+pub(crate) fn limit_reached(v: Settings, now: u64, r: Record) -> bool
     ensures { λ b. ⌜ b ≡ limitReached v now r ⌝ }
 {
     let over = is_window_over(v, now, r);
@@ -89,7 +89,7 @@ fn count_sound(v: Settings, now: u64, r: Record) -> Record
 
 // The record with a fall counted: its window, the count in it and the time before which it is not launched again. A record whose times
 // are out of range is left as it is.
-pub fn count_fall(v: Settings, now: u64, r: Record) -> Record
+pub(crate) fn count_fall(v: Settings, now: u64, r: Record) -> Record
     ensures { λ q. ⌜ q ≡ pick (sound v now r) (fallCounted v now r) r ⌝ }
 {
     if is_sound(v, now, r) {
@@ -99,7 +99,7 @@ pub fn count_fall(v: Settings, now: u64, r: Record) -> Record
 }
 
 // Down, no cause, no deadline, not killed, and wanted and aside as told.
-pub fn at_rest(wanted: bool, aside: bool, r: Record) -> Record
+pub(crate) fn at_rest(wanted: bool, aside: bool, r: Record) -> Record
     ensures { λ q. ⌜ q ≡ atRest wanted aside r ⌝ }
 {
     let mut q = moved(Phase::Down, Cause::None, Deadline::None, r);
@@ -134,7 +134,7 @@ fn settle_sound(v: Settings, now: u64, r: Record) -> Record
 }
 
 // The settled record; a record whose times are out of range is left as it is.
-pub fn settle(v: Settings, now: u64, r: Record) -> Record
+pub(crate) fn settle(v: Settings, now: u64, r: Record) -> Record
     ensures { λ q. ⌜ q ≡ pick (sound v now r) (settled v now r) r ⌝ }
 {
     if is_sound(v, now, r) {

@@ -1,7 +1,7 @@
 -- `limit_reached` meets its contract: the count is that of the window.
 use borrow.Author.Needs.{needs}
-use Rattle.engine_settling.proofs.limit_reached.Statement.{statement}
-use Rattle.engine_settling.proofs.limit_reached.Tie as tie
+use Rattle.engine_records.proofs.settling.limit_reached.Statement.{statement}
+use Rattle.engine_records.proofs.settling.limit_reached.Tie as tie
 
 returns : tie.Need-returns
 returns c =

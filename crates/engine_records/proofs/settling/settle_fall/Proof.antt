@@ -1,7 +1,7 @@
 -- `settle_fall` meets its contract: the fall is counted, and then the service rests.
 use borrow.Author.Needs.{needs}
-use Rattle.engine_settling.proofs.settle_fall.Statement.{statement}
-use Rattle.engine_settling.proofs.settle_fall.Tie as tie
+use Rattle.engine_records.proofs.settling.settle_fall.Statement.{statement}
+use Rattle.engine_records.proofs.settling.settle_fall.Tie as tie
 
 returns : tie.Need-returns
 returns c =

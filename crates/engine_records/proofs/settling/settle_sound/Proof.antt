@@ -1,7 +1,7 @@
 -- `settle_sound` meets its contract: each cause by its own arm.
 use borrow.Author.Needs.{needs}
-use Rattle.engine_settling.proofs.settle_sound.Statement.{statement}
-use Rattle.engine_settling.proofs.settle_sound.Tie as tie
+use Rattle.engine_records.proofs.settling.settle_sound.Statement.{statement}
+use Rattle.engine_records.proofs.settling.settle_sound.Tie as tie
 
 returns : tie.Need-returns
 returns c = rw (c .at-rest .ensures, c .before .enum-told .given .1)

@@ -1,8 +1,8 @@
 -- `count_fall` meets its contract: what is sound is counted.
-use Rattle.engine_settling.proofs.Bounds.{sound-facts}
+use Rattle.engine_records.proofs.Bounds.{sound-facts}
 use borrow.Author.Needs.{needs}
-use Rattle.engine_settling.proofs.count_fall.Statement.{statement}
-use Rattle.engine_settling.proofs.count_fall.Tie as tie
+use Rattle.engine_records.proofs.settling.count_fall.Statement.{statement}
+use Rattle.engine_records.proofs.settling.count_fall.Tie as tie
 
 count-sound-requires : tie.Need-count-sound-requires
 count-sound-requires c κs = search sound-facts

@@ -1,8 +1,8 @@
 -- `next_count` meets its contract: by the test.
 use native.Mathlib.Numerals.{add-one}
 use borrow.Author.Needs.{needs}
-use Rattle.engine_settling.proofs.next_count.Statement.{statement}
-use Rattle.engine_settling.proofs.next_count.Tie as tie
+use Rattle.engine_records.proofs.settling.next_count.Statement.{statement}
+use Rattle.engine_records.proofs.settling.next_count.Tie as tie
 
 returns : tie.Need-returns
 returns c = rw (c .if1 .taken)

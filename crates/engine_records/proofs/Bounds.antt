@@ -10,7 +10,7 @@ use Rattle.service.specs.declared.Record.{Record}
 use Rattle.service.specs.Limits.{lastClock}
 use Rattle.rules.specs.WellFormed.{settingsInRange, timesInRange}
 use Rattle.rules.proofs.Formed.{ranged, timely}
-use Rattle.engine_settling.specs.Sound.{sound, Sound}
+use Rattle.engine_records.specs.Sound.{sound, Sound}
 
 -- q is what the code computed of the test
 pub sound-facts : {v : Settings} {now : ℕ} {r : Record} {q : Bool} → q ≡ sound v now r → q ≡ true → Sound v now r
