@@ -5,7 +5,7 @@ use load_lent::Answer;
 use load_lent::MAX_TEXT;
 use load_lent::MAX_TEXTS;
 use load_lent::name_at;
-use load_word::LONGEST_NAME;
+use load_text::LONGEST_NAME;
 use loader::Loaded;
 use service::Kind;
 use service::MAX_SERVICES;

@@ -24,6 +24,7 @@ use Rattle.service.specs.declared.RunAnswer.the-variants.{Ran as RanTo}
 use Rattle.service.specs.declared.Ran.{Ran}
 use Rattle.service.specs.declared.Record.{Record}
 use Rattle.service.specs.declared.Table.{Table}
+use Rattle.service.specs.declared.Settings.{Settings}
 use Rattle.service.specs.declared.State.{State}
 use Rattle.service.specs.declared.Stepped.{Stepped}
 use Rattle.rules.specs.declared.Rule.{Rule}
@@ -36,8 +37,8 @@ use Rattle.rules.specs.Calls.{acted, check, gives, next, outcome, ranOutcome, r
 use Rattle.rules.proofs.Formed.{formed-next, formed-sound, sound-next}
 use Rattle.rules.proofs.Runs.{steps-within}
 use Rattle.rules.proofs.Resting.{rests-everywhere, steps-quiet}
-use Rattle.engine_settling.specs.Sound.{sound}
-use Rattle.engine_standing.specs.declared.Standing.{Standing}
+use Rattle.engine_records.specs.Sound.{sound}
+use Rattle.engine_choice.specs.declared.standing.Standing.{Standing}
 use Rattle.engine_choice.specs.declared.Fits.{Fits}
 use Rattle.engine_choice.specs.Fits.{choiceFrom}
 use Rattle.engine_choice.proofs.Passes.{Fitting, choice-made, user-gathered}
@@ -152,16 +153,19 @@ module _
   pub turn-quiet : k < m → c ≡ NoRule → Advanced t x m s a (record { last = Quiet; count = k; state = y }) s′ a′
   turn-quiet l p = running-quiet h l (step-quiet t y c (h .passed-list) (choice-made few g z e) p)
 
-  -- u, r and b are what the code has found for the rule i and the service d
-  pub turn-on : {s″ a″ : List ℕ} {i : Rule} {d : ℕ} {u : Bool} {r : Record} {b : Action} → k < m → c ≡ Fit i d
-      → u ≡ overlap (settingsAt t d .hard) (st .user)
-      → r ≡ pick (sound (settingsAt t d) (y .clock) (recordAt y d)) (leftBy i u (settingsAt t d) (y .clock) (recordAt y d)) (recordAt y d)
-      → b ≡ handedBy i (settingsAt t d) (recordAt y d) d
+  -- v is what the code has read for the service d, and u, r and b are what it has found for the rule i and that service
+  pub turn-on : {s″ a″ : List ℕ} {i : Rule} {d : ℕ} {v : Settings} {u : Bool} {r : Record} {b : Action} → k < m → c ≡ Fit i d → v ≡ settingsAt t d
+      → u ≡ overlap (v .hard) (st .user)
+      → r ≡ pick (sound v (y .clock) (recordAt y d)) (leftBy i u v (y .clock) (recordAt y d)) (recordAt y d)
+      → b ≡ handedBy i v (recordAt y d) d
       → s″ ≡ set s′ k (actionService b) → a″ ≡ set a′ k (actionNumber b)
       → Running t x s a m s″ a″ (withRecord y d r) b (k + 1)
-  turn-on {i = i} {d = d} {u = u} {r = r} {b = b} l p v q n o w =
+  turn-on {i = i} {d = d} {v = v} {u = u} {r = r} {b = b} l p at v-u v-r v-b o w =
+      let is-user = v-u ∙ ap (λ (n : Settings). overlap (n .hard) (st .user)) at in
+      let is-left = v-r ∙ ap (λ n. pick (sound n (y .clock) (recordAt y d)) (leftBy i u n (y .clock) (recordAt y d)) (recordAt y d)) at in
+      let is-handed = v-b ∙ ap (λ n. handedBy i n (recordAt y d) d) at in
       running-more h l
-      (step-fits t y c (h .passed-list) (choice-made few g z e) i d (st .user) u r b (user-gathered few g z) p v q n)
+      (step-fits t y c (h .passed-list) (choice-made few g z e) i d (st .user) u r b (user-gathered few g z) p is-user is-left is-handed)
       o w
 
 -- an accepted call: q is what the code found of list 24, r what it did, and z what it gives back

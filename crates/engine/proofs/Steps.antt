@@ -19,8 +19,8 @@ use Rattle.rules.specs.WellFormed.{formed}
 use Rattle.rules.specs.Rules.{Step, lostToUser, leftBy, leaves, handedBy, hands, chosen, act, actOn, nextAction}
 use Rattle.rules.proofs.Next.{Chosen, rule, chosen-is}
 use Rattle.rules.proofs.Resting.{loud}
-use Rattle.engine_settling.specs.Sound.{sound}
-use Rattle.engine_settling.proofs.Formed.{sound-at}
+use Rattle.engine_records.specs.Sound.{sound}
+use Rattle.engine_records.proofs.Formed.{sound-at}
 use Rattle.engine_choice.specs.Lost.{lostByUser}
 use Rattle.engine_choice.proofs.Sets.{lost-to-user}
 

@@ -1,32 +1,50 @@
-// The calls of the engine: the events and the query under this crate's name too, and here the fresh state, the next action
-// and a run to quiet. The table and the state go by value: a call copies them a few times, and list 24 is judged once in each
-// call, a run too.
+// The calls of the engine, and all that a host needs to make them: the events and the query under this crate's name too, and here the
+// fresh state, the next action and a run to quiet; then the types that they take and give, the limits, and the numbers of what they answer. The
+// table and the state go by value: a call copies them a few times, and list 24 is judged once in each call, a run too.
 use base::overlaps;
 use engine_actions::hand_out;
+pub use engine_calls::clock;
+pub use engine_calls::end;
+pub use engine_calls::query;
+pub use engine_calls::start;
+pub use engine_calls::stop;
+pub use engine_calls::stop_all;
 use engine_choice::Fits;
+use engine_choice::Standing;
 use engine_choice::choose;
 use engine_choice::fit;
-pub use engine_events::clock;
-pub use engine_events::end;
-pub use engine_events::start;
-pub use engine_events::stop;
-pub use engine_events::stop_all;
-pub use engine_query::query;
-use engine_rule_records::leave;
-use engine_standing::Standing;
-use engine_standing::noted;
+use engine_choice::noted;
+use engine_records::leave;
 use engine_wellformed::is_formed;
 use rules::Choice;
-use service::Action;
-use service::ActionAnswer;
-use service::Ran;
-use service::Refusal;
-use service::RunAnswer;
-use service::State;
-use service::Stepped;
-use service::Table;
-use service::action_number;
-use service::action_service;
+pub use service::Action;
+pub use service::ActionAnswer;
+pub use service::Cause;
+pub use service::Changed;
+pub use service::Deadline;
+pub use service::EventAnswer;
+pub use service::Kind;
+pub use service::LAST_CLOCK;
+pub use service::MAX_ACTIONS;
+pub use service::MAX_SERVICES;
+pub use service::Phase;
+pub use service::QueryAnswer;
+pub use service::Ran;
+pub use service::Record;
+pub use service::Refusal;
+pub use service::RunAnswer;
+pub use service::Settings;
+pub use service::Signal;
+pub use service::State;
+pub use service::Stepped;
+pub use service::Table;
+pub use service::action_number;
+pub use service::action_service;
+pub use service::cause_number;
+pub use service::is_quiet;
+pub use service::phase_number;
+pub use service::refusal_number;
+pub use service::signal_number;
 ghost use mathlib.Core.Path.{_≡_};
 ghost use mathlib.Core.Bool.{true};
 ghost use Prim.Native.Nat.{suc, _≤_};

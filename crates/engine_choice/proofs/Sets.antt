@@ -20,10 +20,10 @@ use Rattle.rules.specs.declared.Choice.{Choice}
 use Rattle.rules.specs.declared.Choice.the-variants.{Fit}
 use Rattle.rules.specs.Dependencies.{hardLinks, strongLinks, allLinks, hard, strong, soft, depends, serving, barred, blocked, needed}
 use Rattle.rules.specs.Rules.{running, fits, lostToUser, chosenFrom, chosen}
-use Rattle.engine_standing.specs.declared.Standing.{Standing}
-use Rattle.engine_standing.specs.Standing.{standing}
-use Rattle.engine_standing.specs.Fitting.{loseBy, abandonBy, settleBy, wakeBy, releaseBy, beginBy, endBy, expireBy}
-use Rattle.engine_standing.proofs.Gathered.{lost-is, user-is, barred-is, unready-is, blocked-is, needed-is, called-is}
+use Rattle.engine_choice.specs.declared.standing.Standing.{Standing}
+use Rattle.engine_choice.specs.Standing.{standing}
+use Rattle.engine_choice.specs.Fitting.{loseBy, abandonBy, settleBy, wakeBy, releaseBy, beginBy, endBy, expireBy}
+use Rattle.engine_choice.proofs.Gathered.{lost-is, user-is, barred-is, unready-is, blocked-is, needed-is, called-is}
 use Rattle.engine_choice.specs.declared.Fits.{Fits}
 use Rattle.engine_choice.specs.Fits.{noFits, fitting, fitted, tryIn, laterChoice, choiceFrom}
 use Rattle.engine_choice.specs.Lost.{lostByUser}

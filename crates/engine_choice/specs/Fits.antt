@@ -15,9 +15,9 @@ use Rattle.rules.specs.declared.Rule.{Rule}
 use Rattle.rules.specs.declared.Rule.the-variants.{Lose, Abandon, Settle, Wake, Release, Begin, End, Expire}
 use Rattle.rules.specs.declared.Choice.{Choice}
 use Rattle.rules.specs.declared.Choice.the-variants.{Quiet as NoRule, Fit}
-use Rattle.engine_standing.specs.declared.Standing.{Standing}
-use Rattle.engine_standing.specs.declared.Which.{Which}
-use Rattle.engine_standing.specs.Fitting.{whichBy}
+use Rattle.engine_choice.specs.declared.standing.Standing.{Standing}
+use Rattle.engine_choice.specs.declared.standing.Which.{Which}
+use Rattle.engine_choice.specs.Fitting.{whichBy}
 use Rattle.engine_choice.specs.declared.Fits.{Fits}
 
 abbrev pub noFits : Fits

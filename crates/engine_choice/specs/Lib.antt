@@ -1,3 +1,5 @@
 -- The definitions, each file after those that it cites.
+pub mod Standing
+pub mod Fitting
 pub mod Fits
 pub mod Lost

@@ -1,14 +1,17 @@
 // The choice of the next action: the first rule with any service that it fits, lowest service first. Who asks makes two passes over
 // the services: the first gathers where they stand, the second whom each rule fits; then the choice is made from the sets.
+mod standing;
+
 use base::lowest;
 use base::single_of;
-use engine_standing::Standing;
-use engine_standing::Which;
-use engine_standing::which_fit;
 use rules::Choice;
 use rules::Rule;
 use service::Record;
 use service::Settings;
+pub use standing::Standing;
+use standing::Which;
+pub use standing::noted;
+use standing::which_fit;
 ghost use mathlib.Core.Path.{_≡_};
 ghost use Rattle.engine_choice.specs.Fits.{noFits, addedIn, fittedIn, laterChoice, choiceFrom};
 

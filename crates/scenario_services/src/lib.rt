@@ -3,7 +3,7 @@ use load_lent::MAX_TEXT;
 use load_text::line_end;
 use load_text::part;
 use load_text::tail;
-use load_word::LONGEST_NAME;
+use load_text::LONGEST_NAME;
 use scenario_lines::ADD_LINE;
 use scenario_lines::ADD_PIECE;
 use scenario_lines::BEGIN;

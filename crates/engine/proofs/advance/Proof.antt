@@ -1,14 +1,17 @@
 -- `advance` meets its contract: k actions are handed out; in each step two passes gather the sets, and the choice is made from them.
-use Prim.Native.Nat.{_-_, _<_}
+use Prim.Native.Nat.{ℕ, _-_, _<_}
+use native.Mathlib.Nat.{le-trans}
 use mathlib.Core.Path.{_≡_}
-use lib.ListN.{length}
+use lib.ListN.{getD, length}
 use Rattle.base.proofs.Lists.{length-mapped}
-use Rattle.base.proofs.Loops.{Folded, folded-none, folded-more}
+use Rattle.base.proofs.Loops.{Folded, folded-none}
 use Rattle.service.specs.Limits.{maxServices}
 use Rattle.service.specs.Settings.{settingsAt}
 use Rattle.service.specs.Records.{recordAt, withRecord}
-use Rattle.engine_standing.specs.Standing.{nowhere, noting}
-use Rattle.engine_choice.proofs.Passes.{Fitting, fitting-none, fitting-more}
+use Rattle.service.specs.declared.Settings.{Settings}
+use Rattle.engine_wellformed.proofs.Read.{settings-read}
+use Rattle.engine_choice.specs.Standing.{nowhere, noting}
+use Rattle.engine_choice.proofs.Passes.{Fitting, fitting-none, fitting-more, noting-more}
 use Rattle.engine.proofs.Running.{Running, running-none, running-room, running-all, turn-inside, turn-quiet, turn-on}
 use borrow.Author.Needs.{needs}
 use Rattle.engine.proofs.advance.Statement.{statement}
@@ -32,6 +35,13 @@ Inv-loop limit services₀ actions₀ t y₀ last₀ k₀ services actions y las
 abbrev μ-loop : tie.MeasureT-loop
 μ-loop limit services₀ actions₀ t y₀ last₀ k₀ services actions y last k = limit - k
 
+-- the table has its places, so that what is read of one of them is the settings there
+places : (c : tie.Start Inv-loop2 μ-loop2 Inv-loop3 μ-loop3 Inv-loop μ-loop) → length (c .args .t1 .services) ≡ maxServices
+places c = search (needs, length-mapped)
+
+read : (c : tie.Start Inv-loop2 μ-loop2 Inv-loop3 μ-loop3 Inv-loop μ-loop) (i : ℕ) (d : Settings) → i < maxServices → getD (c .args .t1 .services) i d ≡ settingsAt (c .args .t1) i
+read c i d l = settings-read (c .args .t1) i d (places c) l
+
 loop-holds : tie.Need-loop-holds Inv-loop2 μ-loop2 Inv-loop3 μ-loop3 Inv-loop μ-loop
 loop-holds c =
     let at-start = c .before .before in
@@ -42,15 +52,23 @@ loop2-holds : tie.Need-loop2-holds Inv-loop2 μ-loop2 Inv-loop3 μ-loop3 Inv-loo
 loop2-holds c = rw (c .none .ensures) folded-none
 
 loop2-again : tie.Need-loop2-again Inv-loop2 μ-loop2 Inv-loop3 μ-loop3 Inv-loop μ-loop
-unfolding settingsAt recordAt
-loop2-again c = search folded-more
+unfolding recordAt
+loop2-again c =
+    let at-sets = c .before .before .before .before in
+    let at-start = at-sets .before .before .before .before .before .before in
+    let more = c .before .before .before .loop2-test .taken in
+    noting-more (at-start .args .t1) (at-sets .before .before .before .loop .y) (at-sets .loop2 .inv) more (read at-start _ _ (le-trans more (at-start .pre .1))) (c .noted .ensures)
 
 loop3-holds : tie.Need-loop3-holds Inv-loop2 μ-loop2 Inv-loop3 μ-loop3 Inv-loop μ-loop
 loop3-holds c = search fitting-none
 
 loop3-again : tie.Need-loop3-again Inv-loop2 μ-loop2 Inv-loop3 μ-loop3 Inv-loop μ-loop
-unfolding settingsAt recordAt
-loop3-again c = search fitting-more
+unfolding recordAt
+loop3-again c =
+    let at-fits = c .before .before .before .before in
+    let at-start = at-fits .before .before .before .before .before .before .before .before .before in
+    let more = c .before .before .before .loop3-test .taken in
+    fitting-more (at-fits .loop3 .inv) more (read at-start _ _ (le-trans more (at-start .pre .1))) (c .fit .ensures)
 
 returns : tie.Need-returns Inv-loop2 μ-loop2 Inv-loop3 μ-loop3 Inv-loop μ-loop
 returns c = search turn-quiet
@@ -120,13 +138,14 @@ loop-less c =
     search needs
 
 loop-again : tie.Need-loop-again Inv-loop2 μ-loop2 Inv-loop3 μ-loop3 Inv-loop μ-loop
-unfolding settingsAt recordAt withRecord
+unfolding recordAt withRecord
 loop-again c =
     let at-write = c .before .before .before .before in
     let at-hand = at-write .before .before .before in
     let chosen = at-chosen at-write in
     turn-on (at-turn chosen .before .loop .inv) (at-start chosen .pre .1) (at-pass chosen .loop3 .inv) (at-choice chosen .before .loop3-test .left)
     (at-choice chosen .choose .ensures) (at-turn chosen .loop-test .taken) (chosen .before .c .given .1)
+    (read (at-start chosen) _ _ (inside chosen))
     (at-hand .before .before .overlaps .ensures) (at-hand .before .leave .ensures) (at-hand .hand-out .ensures)
     (at-write .write-action .ensures .0) (at-write .write-action .ensures .1)
 

@@ -2,10 +2,11 @@
 use borrow.Author.Needs.{needs}
 use Prim.Native.Nat.{_-_}
 use mathlib.Core.Path.{refl}
-use Rattle.base.proofs.Filled.{Filling, filling-none, filling-more, filling-all}
+use Rattle.base.proofs.Lists.{length-mapped}
+use Rattle.base.proofs.Filled.{Filling, filling-none, filling-all}
 use Rattle.service.specs.Limits.{maxServices}
-use Rattle.service.specs.Settings.{settingsAt}
 use Rattle.rules.specs.Dependencies.{allLinks}
+use Rattle.engine_wellformed.proofs.Read.{filling-read}
 use Rattle.engine_wellformed.proofs.link_rows.Statement.{statement}
 use Rattle.engine_wellformed.proofs.link_rows.Tie as tie
 
@@ -19,8 +20,7 @@ loop-holds : tie.Need-loop-holds Inv-loop μ-loop
 loop-holds c = filling-none (c .pre) refl
 
 loop-again : tie.Need-loop-again Inv-loop μ-loop
-unfolding settingsAt allLinks
-loop-again c = search filling-more
+loop-again c = search (filling-read, length-mapped)
 
 returns : tie.Need-returns Inv-loop μ-loop
 returns c = search filling-all

@@ -1,0 +1,10 @@
+-- `fits_end` meets its contract: by the tests that it calls.
+use borrow.Author.Needs.{needs}
+use Rattle.engine_choice.proofs.standing.fits_end.Statement.{statement}
+use Rattle.engine_choice.proofs.standing.fits_end.Tie as tie
+
+returns : tie.Need-returns
+returns c = cc
+
+pub fits-end-spec : {M : Type 1} → statement M
+fits-end-spec = tie.close (tie.spec (λ c κs. search needs) (λ c κs. search needs) returns)

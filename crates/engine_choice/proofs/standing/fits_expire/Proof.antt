@@ -1,0 +1,11 @@
+-- `fits_expire` meets its contract: by the tests that it calls.
+use borrow.Author.Needs.{needs}
+use Rattle.engine_choice.proofs.standing.fits_expire.Statement.{statement}
+use Rattle.engine_choice.proofs.standing.fits_expire.Tie as tie
+
+returns : tie.Need-returns
+returns c = cc
+
+pub fits-expire-spec : {M : Type 1} → statement M
+fits-expire-spec =
+    tie.close (tie.spec (λ c κs. search needs) (λ c κs. search needs) (λ c κs. search needs) returns)

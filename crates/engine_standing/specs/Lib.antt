@@ -1,3 +1,0 @@
--- The definitions, each file after those that it cites.
-pub mod Standing
-pub mod Fitting
