@@ -1,9 +1,9 @@
 // The services that a scenario has given so far, as they are lent to a load: names and texts one after the other, and where each ends.
 use load_lent::MAX_TEXT;
+use load_text::LONGEST_NAME;
 use load_text::line_end;
 use load_text::part;
 use load_text::tail;
-use load_text::LONGEST_NAME;
 use scenario_lines::ADD_LINE;
 use scenario_lines::ADD_PIECE;
 use scenario_lines::BEGIN;
