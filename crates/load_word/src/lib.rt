@@ -7,7 +7,6 @@ use service::LAST_SIGNAL;
 use service::LONGEST_TIME;
 use service::MAX_COUNT;
 use service::Settings;
-use service::Signal;
 use service::kind_number;
 use service::signal_at;
 ghost use mathlib.Core.Path.{_≡_};
@@ -15,7 +14,7 @@ ghost use mathlib.Core.Bool.{true};
 ghost use Prim.Native.Nat.{_-_, _^_, _≤_};
 ghost use Rattle.load_text.specs.Bytes.{isDigit};
 ghost use Rattle.load_text.specs.Strings.{indexFrom};
-ghost use Rattle.service.specs.Numbers.{kindNumber, signalNumber, withNumber};
+ghost use Rattle.service.specs.Numbers.{kindNumber, withNumber};
 ghost use Rattle.load_word.specs.Words.{flagOf, noOf, kindOf, signalOf, nameBytes, isName};
 ghost use Rattle.load_word.specs.Decimals.{Sane, blank, digitOf, readOf, decimalFrom, timeOf, countOf};
 ghost use Rattle.load_word.specs.Properties.{propertyNames, propertyOf, settingOf};
@@ -360,40 +359,19 @@ pub fn is_name(s: &[u8]) -> bool
     (0 < s.len()) & (s.len() <= LONGEST_NAME) & name_bytes(s)
 }
 
-// The settings with another type and signal. No store puts an enum into a field: this is the one place here that names every setting.
-fn remade(kind: Kind, signal: Signal, v: Settings) -> Settings
-    ensures { λ r. ⌜ r ≡ withNumber 0 (kindNumber kind) (withNumber 7 (signalNumber signal) v) ⌝ }
-{
-    Settings {
-        kind,
-        restart: v.restart,
-        has_stop: v.has_stop,
-        signal,
-        delay: v.delay,
-        interval: v.interval,
-        limit: v.limit,
-        start_timeout: v.start_timeout,
-        stop_timeout: v.stop_timeout,
-        hard: v.hard,
-        milestone: v.milestone,
-        soft: v.soft,
-    }
-}
-
 // The settings with a type.
 pub fn with_kind(kind: Kind, v: Settings) -> Settings
     ensures { λ r. ⌜ r ≡ withNumber 0 (kindNumber kind) v ⌝ }
 {
-    let signal = v.signal;
-    remade(kind, signal, v)
+    Settings { kind, ..v }
 }
 
 // The settings with a signal, by its number.
 fn with_signal(n: u64, v: Settings) -> Settings
     ensures { λ r. ⌜ r ≡ withNumber 7 n v ⌝ }
 {
-    let kind = v.kind;
-    remade(kind, signal_at(n), v)
+    let signal = signal_at(n);
+    Settings { signal, ..v }
 }
 
 // The settings with a word as the value of one of them.
