@@ -22,9 +22,6 @@ ghost use Rattle.load_word.specs.Properties.{propertyNames, propertyOf, 
 // The longest name of a service.
 pub const LONGEST_NAME: usize = 32;
 
-// How many properties there are.
-const PROPERTIES: usize = 14;
-
 // How many signals there are.
 const SIGNALS: usize = LAST_SIGNAL as usize + 1;
 
@@ -88,12 +85,12 @@ pub enum Reading {
     Off,
 }
 
-// The place of a name among those of the properties; their count where it is none of them.
+// The place of a name among those of the properties; their count where it is none of them. The first one's type makes all of them slices.
 fn find_place(name: &[u8]) -> usize
     ensures { λ r. ⌜ r ≡ indexFrom (now (name .entry)) 0 propertyNames ⌝ }
 {
-    let names: [&[u8]; PROPERTIES] = [
-        b"type",
+    let names = [
+        b"type" as &[u8],
         b"command",
         b"stop-command",
         b"restart",
@@ -109,7 +106,7 @@ fn find_place(name: &[u8]) -> usize
         b"term-signal",
     ];
     let mut k: usize = 0;
-    while k < PROPERTIES {
+    while k < names.len() {
         let n = names[k];
         let found = same_bytes(name, n);
         if found {
@@ -124,7 +121,7 @@ fn find_place(name: &[u8]) -> usize
 pub fn find_property(name: &[u8]) -> Property
     ensures { λ r. ⌜ r ≡ propertyOf (now (name .entry)) ⌝ }
 {
-    let properties: [Property; PROPERTIES] = [
+    let properties = [
         Property::Kind,
         Property::Command(Command::Start),
         Property::Command(Command::Stop),
@@ -141,7 +138,7 @@ pub fn find_property(name: &[u8]) -> Property
         Property::Setting(Setting::TermSignal),
     ];
     let k = find_place(name);
-    if k < PROPERTIES {
+    if k < properties.len() {
         return properties[k];
     }
     Property::Unknown

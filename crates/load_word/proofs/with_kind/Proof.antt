@@ -1,7 +1,6 @@
 -- `with_kind` meets its contract: every other setting is what its number is read back as.
 use Rattle.service.specs.Numbers.{settingsFrom}
 use Rattle.service.proofs.Numbering.{kind-back, signal-back, flag-back}
-use borrow.Author.Needs.{needs}
 use Rattle.load_word.proofs.with_kind.Statement.{statement}
 use Rattle.load_word.proofs.with_kind.Tie as tie
 
