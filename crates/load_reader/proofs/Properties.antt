@@ -39,8 +39,8 @@ module _ (n : ℕ) {o : Opening} where
       let i : f .at ≤ n = subst (Inside n) e h in
       omega arith
 
-pub property-told : (text : List ℕ) (d : Description) (from : ℕ) (l : List ℕ) {o : Opening} {s : Places} {w : List ℕ} {p : Property} {r : Line} → o ≡ Named s
-    → w ≡ partOf l (s .from) (s .end) → p ≡ propertyOf w → r ≡ propertyRead text d from l s p → r ≡ openingRead text d from l o
+pub property-told : (text : List ℕ) (d : Description) (from : ℕ) (l : List ℕ) {o : Opening} {s : Places} {w : List ℕ} {p : Property} {r : Line}
+    → o ≡ Named s → w ≡ partOf l (s .from) (s .end) → p ≡ propertyOf w → r ≡ propertyRead text d from l s p → r ≡ openingRead text d from l o
 property-told text d from l e q u v = v ∙ rw (e, u, q)
 
 -- offsets in the line that begins at `from`, which ends below 2^63: past the white space of the value, and the value's fault

@@ -35,18 +35,14 @@ ghost use Rattle.load_description.specs.Settings.{blank, withSettings, withComm
 ghost use Rattle.load_description.specs.Lines.{isSilent, propertyRead, openingRead};
 ghost use Rattle.load_description.specs.Texts.{readAs, readOn, linesRead, textRead};
 
-// Other settings. No store puts a struct into a field: this is the one place here that names every field.
+// Other settings.
 fn with_settings(d: Description, typed: bool, v: Settings) -> Description
     ensures { λ r. ⌜ r ≡ withSettings d typed v ⌝ }
 {
-    let kept = d.kept;
-    let dependencies = d.dependencies;
     Description {
         settings: v,
         typed,
-        kept,
-        count: d.count,
-        dependencies,
+        ..d
     }
 }
 

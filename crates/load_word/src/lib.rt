@@ -8,7 +8,6 @@ use service::LAST_SIGNAL;
 use service::LONGEST_TIME;
 use service::MAX_COUNT;
 use service::Settings;
-use service::Signal;
 use service::kind_number;
 use service::signal_at;
 ghost use mathlib.Core.Path.{_≡_};
@@ -16,13 +15,10 @@ ghost use mathlib.Core.Bool.{true};
 ghost use Prim.Native.Nat.{_-_, _^_, _≤_};
 ghost use Rattle.load_text.specs.Bytes.{isDigit};
 ghost use Rattle.load_text.specs.Strings.{indexFrom};
-ghost use Rattle.service.specs.Numbers.{kindNumber, signalNumber, withNumber};
+ghost use Rattle.service.specs.Numbers.{kindNumber, withNumber};
 ghost use Rattle.load_word.specs.Words.{flagOf, noOf, kindOf, signalOf, nameBytes, isName};
 ghost use Rattle.load_word.specs.Decimals.{Sane, blank, digitOf, readOf, decimalFrom, timeOf, countOf};
 ghost use Rattle.load_word.specs.Properties.{propertyNames, propertyOf, settingOf};
-
-// How many properties there are.
-const PROPERTIES: usize = 14;
 
 // How many signals there are.
 const SIGNALS: usize = LAST_SIGNAL as usize + 1;
@@ -87,12 +83,12 @@ pub enum Reading {
     Off,
 }
 
-// The place of a name among those of the properties; their count where it is none of them.
+// The place of a name among those of the properties; their count where it is none of them. The first one's type makes all of them slices.
 fn find_place(name: &[u8]) -> usize
     ensures { λ r. ⌜ r ≡ indexFrom (now (name .entry)) 0 propertyNames ⌝ }
 {
-    let names: [&[u8]; PROPERTIES] = [
-        b"type",
+    let names = [
+        b"type" as &[u8],
         b"command",
         b"stop-command",
         b"restart",
@@ -108,7 +104,7 @@ fn find_place(name: &[u8]) -> usize
         b"term-signal",
     ];
     let mut k: usize = 0;
-    while k < PROPERTIES {
+    while k < names.len() {
         let n = names[k];
         let found = same_bytes(name, n);
         if found {
@@ -123,7 +119,7 @@ fn find_place(name: &[u8]) -> usize
 pub fn find_property(name: &[u8]) -> Property
     ensures { λ r. ⌜ r ≡ propertyOf (now (name .entry)) ⌝ }
 {
-    let properties: [Property; PROPERTIES] = [
+    let properties = [
         Property::Kind,
         Property::Command(Command::Start),
         Property::Command(Command::Stop),
@@ -140,7 +136,7 @@ pub fn find_property(name: &[u8]) -> Property
         Property::Setting(Setting::TermSignal),
     ];
     let k = find_place(name);
-    if k < PROPERTIES {
+    if k < properties.len() {
         return properties[k];
     }
     Property::Unknown
@@ -358,40 +354,19 @@ pub fn is_name(s: &[u8]) -> bool
     (0 < s.len()) & (s.len() <= LONGEST_NAME) & name_bytes(s)
 }
 
-// The settings with another type and signal. No store puts an enum into a field: this is the one place here that names every setting.
-fn remade(kind: Kind, signal: Signal, v: Settings) -> Settings
-    ensures { λ r. ⌜ r ≡ withNumber 0 (kindNumber kind) (withNumber 7 (signalNumber signal) v) ⌝ }
-{
-    Settings {
-        kind,
-        restart: v.restart,
-        has_stop: v.has_stop,
-        signal,
-        delay: v.delay,
-        interval: v.interval,
-        limit: v.limit,
-        start_timeout: v.start_timeout,
-        stop_timeout: v.stop_timeout,
-        hard: v.hard,
-        milestone: v.milestone,
-        soft: v.soft,
-    }
-}
-
 // The settings with a type.
 pub fn with_kind(kind: Kind, v: Settings) -> Settings
     ensures { λ r. ⌜ r ≡ withNumber 0 (kindNumber kind) v ⌝ }
 {
-    let signal = v.signal;
-    remade(kind, signal, v)
+    Settings { kind, ..v }
 }
 
 // The settings with a signal, by its number.
 fn with_signal(n: u64, v: Settings) -> Settings
     ensures { λ r. ⌜ r ≡ withNumber 7 n v ⌝ }
 {
-    let kind = v.kind;
-    remade(kind, signal_at(n), v)
+    let signal = signal_at(n);
+    Settings { signal, ..v }
 }
 
 // The settings with a word as the value of one of them.

@@ -1,9 +1,9 @@
 -- `is_known` meets its contract: a loop over the places of dependencies that are taken.
-use Prim.Native.Nat.{_-_, _≤_}
+use Prim.Native.Nat.{_-_}
 use mathlib.Core.Path.{_∙_, ap}
 use Rattle.base.proofs.Loops.{Some, folded-none, some-more, some-all}
 use Rattle.base.specs.Folds.{some}
-use Rattle.load_description.specs.Settings.{dependencyAt, isDependency, known, maxDependencies}
+use Rattle.load_description.specs.Settings.{dependencyAt, isDependency, known}
 use borrow.Author.Needs.{needs}
 use Rattle.load_description.proofs.is_known.Statement.{statement}
 use Rattle.load_description.proofs.is_known.Tie as tie

@@ -1,6 +1,5 @@
 -- `find_property` meets its contract: the property at the place of its name.
 use borrow.Author.Needs.{needs}
-use Rattle.load_word.specs.Properties.{propertyNames, propertyOf}
 use Rattle.load_word.proofs.Words.{property-found, property-none}
 use Rattle.load_word.proofs.find_property.Statement.{statement}
 use Rattle.load_word.proofs.find_property.Tie as tie
