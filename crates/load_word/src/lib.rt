@@ -1,4 +1,5 @@
 // The words of a description: names of properties, the values of those that are no commands, names of services.
+use load_text::LONGEST_NAME;
 use load_text::is_digit;
 use load_text::is_name_byte;
 use load_text::same_bytes;
@@ -19,9 +20,6 @@ ghost use Rattle.service.specs.Numbers.{kindNumber, signalNumber, withNumber};
 ghost use Rattle.load_word.specs.Words.{flagOf, noOf, kindOf, signalOf, nameBytes, isName};
 ghost use Rattle.load_word.specs.Decimals.{Sane, blank, digitOf, readOf, decimalFrom, timeOf, countOf};
 ghost use Rattle.load_word.specs.Properties.{propertyNames, propertyOf, settingOf};
-
-// The longest name of a service.
-pub const LONGEST_NAME: usize = 32;
 
 // How many properties there are.
 const PROPERTIES: usize = 14;
