@@ -1,8 +1,7 @@
 -- What a load gives passes list 24's part on tables: the count, the dependencies, the ranges, and no cycle.
 use Prim.Native.Nat.{_+_, _<_, _^_, _≤_, suc, zero, ℕ}
 use borrow.Author.Tests.{leb-true, ltb-true}
-use lib.Bits.{bitOr}
-use lib.Dec.{eqb, leb, ltb}
+use lib.Dec.{leb, ltb}
 use lib.ListN.{getD, replicate, set}
 use mathlib.Core.Bool.{Bool, false, true}
 use mathlib.Core.List.{List}
@@ -16,6 +15,7 @@ use Rattle.base.proofs.Bits.{within-none, within-or, within-power}
 use Rattle.base.proofs.Lists.{copies-hold, set-holds}
 use Rattle.base.proofs.Tests.{tests}
 use Rattle.service.specs.Limits.{maxServices}
+use Rattle.service.specs.Numbers.{settingsFrom}
 use Rattle.service.specs.Settings.{defaultSettings, noServices, settingsAt}
 use Rattle.service.specs.declared.Settings.{Settings}
 use Rattle.rules.specs.Dependencies.{allLinks}
@@ -24,11 +24,14 @@ use Rattle.rules.proofs.Links.{table-sound}
 use Rattle.load_text.specs.Lines.{fault}
 use Rattle.load_text.specs.declared.Verdict.{Verdict}
 use Rattle.load_text.specs.declared.Verdict.the-variants.{Bad as Bad, Good as Good}
-use Rattle.load_description.specs.Settings.{blank, dependencyAt, descriptionAt, wordAt}
+use Rattle.load_word.specs.declared.Link.{Link}
+use Rattle.load_word.specs.declared.Link.the-variants.{DependsMs, DependsOn, WaitsFor}
+use Rattle.load_description.specs.Settings.{blank, dependencyAt, descriptionAt, maxDependencies, wordAt}
 use Rattle.load_description.specs.Texts.{textRead}
+use Rattle.load_description.specs.declared.Dependency.{Dependency as Named}
 use Rattle.load_description.specs.declared.Description.{Description}
 use Rattle.load_lent.specs.Checks.{find}
-use Rattle.load_links.specs.Links.{linksAt, linksFrom, lowestCyclic, noLinks, servicesFrom, servicesOn, settingsOf, withLink}
+use Rattle.load_links.specs.Links.{linksAt, linksFrom, linksIn, lowestCyclic, noLinks, servicesFrom, servicesOn, settingsOf, withLink}
 use Rattle.loader.specs.Load.{acyclic}
 use Rattle.load_lent.specs.Parts.{nameAt, serviceCount, textAt}
 use Rattle.loader.specs.Texts.{descriptionsFrom, descriptionsOn, noDescriptions}
@@ -36,7 +39,7 @@ use Rattle.loader.proofs.Outcomes.{every-load, setDescriptions, setServices}
 use Rattle.load_links.specs.declared.Linked.{Linked}
 use Rattle.load_links.specs.declared.Links.{Links}
 use Rattle.guarantee.specs.Guarantee.{LoadsFormed}
-use Rattle.guarantee.proofs.Values.{InRange, blank-in, text-in}
+use Rattle.guarantee.proofs.Values.{InRange, default-ranged, text-in}
 
 -- the settings of one service in a set of n
 pub record ServiceIn (n : ℕ) (v : Settings) : Type 0 where
@@ -50,36 +53,46 @@ record LinksIn (n : ℕ) (l : Links) : Type 0 where
   milestone : within n (l .milestone) ≡ true
   soft : within n (l .soft) ≡ true
 
-link-more : (n : ℕ) (b : Bool) (m i : ℕ) → i < n → within n m ≡ true → within n (pick b (bitOr m (2 ^ i)) m) ≡ true
-link-more n true m i l h = within-or n m (2 ^ i) h (within-power n i l)
-link-more n false m i l h = h
+link-in : (n : ℕ) (l : Links) (by : Link) (i : ℕ) → i < n → LinksIn n l → LinksIn n (withLink l by i)
+link-in n l DependsOn i u h =
+    record { hard = within-or n (l .hard) (2 ^ i) (h .hard) (within-power n i u); milestone = h .milestone; soft = h .soft }
+link-in n l DependsMs i u h =
+    record { hard = h .hard; milestone = within-or n (l .milestone) (2 ^ i) (h .milestone) (within-power n i u); soft = h .soft }
+link-in n l WaitsFor i u h =
+    record { hard = h .hard; milestone = h .milestone; soft = within-or n (l .soft) (2 ^ i) (h .soft) (within-power n i u) }
 
-links-in : (name : ℕ → List ℕ) (n : ℕ) (text : List ℕ) (d : Description) (l : Links) (k m : ℕ) → LinksIn n l → LinksIn n (linksFrom name n text d l k m .links)
+links-from : (name : ℕ → List ℕ) (n : ℕ) (text : List ℕ) (d : Description) (l : Links) (k m : ℕ) → LinksIn n l
+    → LinksIn n (linksFrom name n text d l k m .links)
 unfolding linksFrom
-links-in name n text d l k zero h = h
-links-in name n text d l k (suc m) h =
-    go (ltb i n) refl (λ l′. links-in name n text d l′ (k + 1) m)
+links-from name n text d l k zero h = h
+links-from name n text d l k (suc m) h = go (ltb i n) refl (λ l′. links-from name n text d l′ (k + 1) m)
   where
+    e : Named
+    e = dependencyAt d k
+
     i : ℕ
-    i = find name n (wordAt text (dependencyAt d k .at))
+    i = find name n (wordAt text (e .at))
 
     go : (b : Bool) → ltb i n ≡ b → ((l′ : Links) → LinksIn n l′ → LinksIn n (linksFrom name n text d l′ (k + 1) m .links))
-        → LinksIn n (pick b (linksFrom name n text d (withLink l (dependencyAt d k .property) i) (k + 1) m) (record { answer = Bad (fault 15 (dependencyAt d k .at)); links = l }) .links)
-    go true e rest =
-        rest (withLink l (dependencyAt d k .property) i)
-        record {
-          hard = link-more n (eqb (dependencyAt d k .property) 10) (l .hard) i (ltb-true i n e) (h .hard);
-          milestone = link-more n (eqb (dependencyAt d k .property) 11) (l .milestone) i (ltb-true i n e) (h .milestone);
-          soft = link-more n (eqb (dependencyAt d k .property) 12) (l .soft) i (ltb-true i n e) (h .soft);
-        }
-    go false e rest = h
+        → LinksIn n (pick b (linksFrom name n text d (withLink l (e .link) i) (k + 1) m) (record { answer = Bad (fault 15 (e .at)); links = l }) .links)
+    go true q rest = rest (withLink l (e .link) i) (link-in n l (e .link) i (ltb-true i n q) h)
+    go false q rest = h
 
 no-links-in : (n : ℕ) → LinksIn n noLinks
 no-links-in n = record { hard = within-none n; milestone = within-none n; soft = within-none n }
 
+links-in : (name : ℕ → List ℕ) (n : ℕ) (text : List ℕ) (d : Description) → LinksIn n (linksIn name n text d .links)
+unfolding linksIn
+links-in name n text d = go (leb (d .count) maxDependencies)
+  where
+    go : (b : Bool) → LinksIn n (pick b (linksFrom name n text d noLinks 0 (d .count)) (record { answer = Bad (fault 12 0); links = noLinks }) .links)
+    go true = links-from name n text d noLinks 0 (d .count) (no-links-in n)
+    go false = no-links-in n
+
 -- ---- the settings of a service
 
-service-in : (n : ℕ) (d : Description) (l : Links) → InRange d → LinksIn n l → ServiceIn n (settingsOf d l)
+service-in : (n : ℕ) (d : Description) (l : Links) → InRange (d .settings) → LinksIn n l → ServiceIn n (settingsOf d l)
+unfolding settingsFrom
 service-in n d l h k = record {
   inside = simp tests ((k .hard, k .milestone), k .soft);
   ranged = simp tests ((((h .delay, h .interval), h .starting), h .stopping), h .limit);
@@ -88,20 +101,17 @@ service-in n d l h k = record {
 default-in : (n : ℕ) → ServiceIn n defaultSettings
 default-in n = record { inside = simp tests ((within-none n, within-none n), within-none n); ranged = refl }
 
-no-settings-in : (n : ℕ) → ServiceIn n defaultSettings
-no-settings-in n = record { inside = simp tests ((within-none n, within-none n), within-none n); ranged = refl }
-
 -- ---- the passes
 
 -- every description of the set is in range
 abbrev AllIn : List Description → Type 0
-AllIn ds = (i : ℕ) → InRange (descriptionAt ds i)
+AllIn ds = (i : ℕ) → InRange (descriptionAt ds i .settings)
 
 descriptions-in : (text : ℕ → List ℕ) (ds : List Description) (j m : ℕ) → AllIn ds → AllIn (descriptionsFrom text ds j m .descriptions)
 unfolding descriptionsFrom
 descriptions-in text ds j zero h = h
 descriptions-in text ds j (suc m) h =
-    go (textRead (text j) .answer) (descriptions-in text (set ds j (textRead (text j) .description)) (j + 1) m (λ i. set-holds InRange ds j i (textRead (text j) .description) blank (λ _. text-in (text j)) (h i)))
+    go (textRead (text j) .answer) (descriptions-in text (set ds j (textRead (text j) .description)) (j + 1) m (λ i. set-holds (λ d. InRange (d .settings)) ds j i (textRead (text j) .description) blank (λ _. text-in (text j)) (h i)))
   where
     go : (v : Verdict) → AllIn (descriptionsFrom text (set ds j (textRead (text j) .description)) (j + 1) m .descriptions)
         → AllIn (descriptionsOn (text j) j v ds (descriptionsFrom text (set ds j (textRead (text j) .description)) (j + 1) m) .descriptions)
@@ -116,13 +126,13 @@ services-in : (name text : ℕ → List ℕ) (ds : List Description) (n : ℕ) (
 unfolding servicesFrom
 services-in name text ds n vs j zero h k = k
 services-in name text ds n vs j (suc m) h k =
-    go (r .answer) (services-in name text ds n vs′ (j + 1) m h (λ i. set-holds (ServiceIn n) vs j i (settingsOf d (r .links)) defaultSettings (λ _. service-in n d (r .links) (h j) (links-in name n (text j) d noLinks 0 (d .count) (no-links-in n))) (k i)))
+    go (r .answer) (services-in name text ds n vs′ (j + 1) m h (λ i. set-holds (ServiceIn n) vs j i (settingsOf d (r .links)) defaultSettings (λ _. service-in n d (r .links) (h j) (links-in name n (text j) d)) (k i)))
   where
     d : Description
     d = descriptionAt ds j
 
     r : Linked
-    r = linksFrom name n (text j) d noLinks 0 (d .count)
+    r = linksIn name n (text j) d
 
     vs′ : List Settings
     vs′ = set vs j (settingsOf d (r .links))
@@ -161,8 +171,8 @@ none-formed = refl
 set-in : (lent ends : List ℕ) → AllServices (serviceCount ends) (setServices lent ends)
 set-in lent ends =
     services-in (nameAt lent ends) (textAt lent ends) (setDescriptions lent ends) n (replicate maxServices defaultSettings) 0 n
-    (descriptions-in (textAt lent ends) noDescriptions 0 n (λ i. copies-hold InRange maxServices i blank blank blank-in blank-in))
-    (λ i. copies-hold (ServiceIn n) maxServices i defaultSettings defaultSettings (default-in n) (no-settings-in n))
+    (descriptions-in (textAt lent ends) noDescriptions 0 n (λ i. copies-hold (λ d. InRange (d .settings)) maxServices i blank blank default-ranged default-ranged))
+    (λ i. copies-hold (ServiceIn n) maxServices i defaultSettings defaultSettings (default-in n) (default-in n))
   where
     n : ℕ
     n = serviceCount ends

@@ -1,6 +1,5 @@
 -- The settings that a description is read to are in list 24's ranges: every line keeps them so.
 use Prim.Native.Nat.{_+_, ℕ}
-use borrow.Author.Tests.{eqb-true}
 use lib.Dec.{eqb, leb, ltb}
 use lib.ListN.{drop, getD, length, set}
 use mathlib.Core.Bool.{Bool, _&&_, _||_, false, not, true}
@@ -8,8 +7,11 @@ use mathlib.Core.List.{List, [], _∷_}
 use mathlib.Core.Path.{_≡_, refl}
 use Rattle.base.specs.Folds.{pick}
 use Rattle.base.proofs.Lists.{set-holds}
-use Rattle.base.proofs.Tests.{and-true, either, or-true}
+use Rattle.base.proofs.Tests.{and-true}
 use Rattle.service.specs.Limits.{longestTime, maxCount}
+use Rattle.service.specs.Numbers.{kindNumber, settingsFrom, settingsNumbers, withNumber}
+use Rattle.service.specs.Settings.{defaultSettings}
+use Rattle.service.specs.declared.Settings.{Settings as ServiceSettings}
 use Rattle.load_text.specs.Lines.{badFrom, linesOf, opening, whiteEnd}
 use Rattle.load_text.specs.Strings.{partOf}
 use Rattle.load_text.specs.declared.Opening.{Opening}
@@ -21,192 +23,218 @@ use Rattle.load_value.specs.declared.Scan.{Scan}
 use Rattle.load_value.specs.declared.Scan.the-variants.{Bad as BadValue, Tokens}
 use Rattle.load_value.specs.declared.Sizes.{Sizes}
 use Rattle.load_word.specs.Decimals.{countEnd, countOf, blank as decimalBlank, decimalFrom, timeEnd, timeOf, unitsOf, valued}
-use Rattle.load_word.specs.Properties.{propertyOf, settingOf, takesCommand, takesName, takesTime, unknownProperty}
+use Rattle.load_word.specs.Properties.{checked, isUnknown, propertyOf, settingOf, stored}
 use Rattle.load_word.specs.Words.{flagOf, isName, kindOf, noOf, signalOf}
+use Rattle.load_word.specs.declared.Change.{Change}
+use Rattle.load_word.specs.declared.Change.the-variants.{Refused, To}
+use Rattle.load_word.specs.declared.Command.the-variants.{Start, Stop}
 use Rattle.load_word.specs.declared.Decimal.{Decimal}
+use Rattle.load_word.specs.declared.Link.{Link as LinkName}
+use Rattle.load_word.specs.declared.Property.{Property}
+use Rattle.load_word.specs.declared.Property.the-variants.{Command as CommandProperty, Kind as KindProperty, Link, Setting, Unknown}
 use Rattle.load_word.specs.declared.Reading.{Reading}
 use Rattle.load_word.specs.declared.Reading.the-variants.{Off, On}
-use Rattle.load_word.specs.declared.Setting.{Setting as SettingRead}
-use Rattle.load_word.specs.declared.Setting.the-variants.{Bad as BadSetting, Value}
-use Rattle.load_description.specs.Lines.{dependencyRead, lineRead, openingRead, propertyRead, scanRead, settingRead, tokensRead, wordRead}
-use Rattle.load_description.specs.Settings.{affected, blank, known, maxDependencies, valueOf}
+use Rattle.load_word.specs.declared.Setting.{Setting as SettingName}
+use Rattle.load_word.specs.declared.Setting.the-variants.{Restart, RestartDelay, RestartLimitCount, RestartLimitInterval}
+use Rattle.load_word.specs.declared.Setting.the-variants.{SmoothRecovery, StartTimeout, StopTimeout, TermSignal}
+use Rattle.load_word.specs.declared.Worth.{Worth}
+use Rattle.load_word.specs.declared.Worth.the-variants.{Bad as BadWorth, Value}
+use Rattle.load_description.specs.Lines.{dependencyRead, kindRead, lineRead, openingRead, propertyRead, scanRead, settingRead, singleRead, tokensRead, wordRead}
+use Rattle.load_description.specs.Settings.{affected, blank, known, maxDependencies}
 use Rattle.load_description.specs.Texts.{cleanRead, linesRead, readOn, textRead}
 use Rattle.load_description.specs.declared.Description.{Description}
 use Rattle.load_description.specs.declared.Effect.{Effect}
-use Rattle.load_description.specs.declared.Effect.the-variants.{Dependency, Nothing, Setting}
+use Rattle.load_description.specs.declared.Effect.the-variants.{Command, Dependency, Kind, Nothing, Settings}
 use Rattle.load_description.specs.declared.Line.{Line}
 use Rattle.load_description.specs.declared.Line.the-variants.{Bad as BadLine, Good as GoodLine}
 
--- what holds of both sides of a choice, each where its side is taken, holds of the choice
-by-test : {A : Type 0} (P : A → Type 0) (b : Bool) (x y : A) → (b ≡ true → P x) → (b ≡ false → P y) → P (pick b x y)
-by-test P true x y f g = f refl
-by-test P false x y f g = g refl
+-- ---- settings in range
 
--- the value v of property p is in its range
+-- the number n may stand at the place k of the settings' numbers: four of them are times, and one is the limit count
 abbrev inRule : ℕ → ℕ → Bool
-inRule p v = pick (eqb p 7) (leb v maxCount) (pick (takesTime p) (leb v longestTime) true)
+inRule k n =
+    pick (eqb k 4) (leb n maxCount) (pick (eqb k 2 || eqb k 3 || eqb k 5 || eqb k 6) (leb n longestTime) true)
 
--- ---- a word's value
+pub record InRange (v : ServiceSettings) : Type 0 where
+  pub delay : leb (v .delay) longestTime ≡ true
+  pub interval : leb (v .interval) longestTime ≡ true
+  pub limit : leb (v .limit) maxCount ≡ true
+  pub starting : leb (v .«start_timeout») longestTime ≡ true
+  pub stopping : leb (v .«stop_timeout») longestTime ≡ true
 
-abbrev SettingIn : ℕ → SettingRead → Type 0
-SettingIn p (Value v) = inRule p v ≡ true
-SettingIn p BadSetting = Unit {0}
+pub default-ranged : InRange defaultSettings
+default-ranged = record { delay = refl; interval = refl; limit = refl; starting = refl; stopping = refl }
 
--- a value that the list does not judge
-free : (p : ℕ) (s : SettingRead) → ((v : ℕ) → inRule p v ≡ true) → SettingIn p s
-free p (Value v) h = h v
-free p BadSetting h = tt
+-- kept by every store of a number that may stand in its place: a setting's, the type's, the stop-command's
+stored-in : (k n : ℕ) (v : ServiceSettings) → inRule k n ≡ true → InRange v → InRange (withNumber k n v)
+unfolding settingsFrom
+stored-in k n v e h = record {
+  delay = at 2 (λ a. leb a longestTime ≡ true) (λ q. rw (← q) at e) (h .delay);
+  interval = at 3 (λ a. leb a longestTime ≡ true) (λ q. rw (← q) at e) (h .interval);
+  limit = at 4 (λ a. leb a maxCount ≡ true) (λ q. rw (← q) at e) (h .limit);
+  starting = at 5 (λ a. leb a longestTime ≡ true) (λ q. rw (← q) at e) (h .starting);
+  stopping = at 6 (λ a. leb a longestTime ≡ true) (λ q. rw (← q) at e) (h .stopping);
+}
+  where
+    at : (i : ℕ) (P : ℕ → Type 0) → (i ≡ k → P n) → P (getD (settingsNumbers v) i 0) → P (getD (set (settingsNumbers v) k n) i 0)
+    at i P f g = set-holds P (settingsNumbers v) k i n 0 f g
 
--- where p is a number whose rule is known
-at-number : (p q : ℕ) (s : SettingRead) → eqb p q ≡ true → SettingIn q s → SettingIn p s
-at-number p q s e h = rw (eqb-true p q e) h
+-- ---- what a word is worth
 
-abbrev AtMost : ℕ → SettingRead → Type 0
-AtMost m (Value v) = leb v m ≡ true
-AtMost m BadSetting = Unit {0}
+-- the number that a word is worth, where it is worth one, has p
+abbrev Worthy : (ℕ → Bool) → Worth → Type 0
+Worthy p (Value n) = p n ≡ true
+Worthy p BadWorth = Unit {0}
 
-time-at-most : (w : List ℕ) → AtMost longestTime (timeOf w)
+any-worth : (x : Worth) → Worthy (λ n. true) x
+any-worth (Value n) = refl
+any-worth BadWorth = tt
+
+time-at-most : (w : List ℕ) → Worthy (λ n. leb n longestTime) (timeOf w)
 unfolding timeOf timeEnd
 time-at-most w = go (decimalFrom decimalBlank w)
   where
-    last : (k : Decimal) (b : Bool) → (ltb 0 (k .whole) && (not (k .point) || ltb 0 (k .part)) && leb (unitsOf k) longestTime) ≡ b → AtMost longestTime (pick b (Value (unitsOf k)) BadSetting)
+    last : (k : Decimal) (b : Bool) → (ltb 0 (k .whole) && (not (k .point) || ltb 0 (k .part)) && leb (unitsOf k) longestTime) ≡ b
+        → Worthy (λ n. leb n longestTime) (pick b (Value (unitsOf k)) BadWorth)
     last k true e = and-true (ltb 0 (k .whole) && (not (k .point) || ltb 0 (k .part))) (leb (unitsOf k) longestTime) .0 e .1
     last k false e = tt
 
-    go : (r : Reading) → AtMost longestTime (valued r timeEnd)
+    go : (r : Reading) → Worthy (λ n. leb n longestTime) (valued r timeEnd)
     go (On k) = last k _ refl
     go Off = tt
 
-count-at-most : (w : List ℕ) → AtMost maxCount (countOf w)
+count-at-most : (w : List ℕ) → Worthy (λ n. leb n maxCount) (countOf w)
 unfolding countOf countEnd
 count-at-most w = go (decimalFrom decimalBlank w)
   where
-    last : (k : Decimal) (b : Bool) → (ltb 0 (k .whole) && leb (k .whole) 5 && not (k .point) && leb (k .value) maxCount) ≡ b → AtMost maxCount (pick b (Value (k .value)) BadSetting)
+    last : (k : Decimal) (b : Bool) → (ltb 0 (k .whole) && leb (k .whole) 5 && not (k .point) && leb (k .value) maxCount) ≡ b
+        → Worthy (λ n. leb n maxCount) (pick b (Value (k .value)) BadWorth)
     last k true e = and-true (ltb 0 (k .whole) && leb (k .whole) 5 && not (k .point)) (leb (k .value) maxCount) .0 e .1
     last k false e = tt
 
-    go : (r : Reading) → AtMost maxCount (valued r countEnd)
+    go : (r : Reading) → Worthy (λ n. leb n maxCount) (valued r countEnd)
     go (On k) = last k _ refl
     go Off = tt
 
--- a time is in the range of every property but the count
-timed : (p : ℕ) (s : SettingRead) → eqb p 7 ≡ false → AtMost longestTime s → SettingIn p s
-timed p (Value v) e h = rw e (go (takesTime p))
-  where
-    go : (b : Bool) → pick b (leb v longestTime) true ≡ true
-    go true = h
-    go false = refl
-timed p BadSetting e h = tt
+-- ---- a setting's word
 
-counted : (s : SettingRead) → AtMost maxCount s → SettingIn 7 s
-counted (Value v) h = h
-counted BadSetting h = tt
+abbrev ChangeIn : Change → Type 0
+ChangeIn (To v) = InRange v
+ChangeIn Refused = Unit {0}
 
-setting-in : (p : ℕ) (w : List ℕ) → SettingIn p (settingOf p w)
+worth-in : (k : ℕ) (v : ServiceSettings) (x : Worth) → InRange v → Worthy (inRule k) x → ChangeIn (stored k v x)
+worth-in k v (Value n) h e = stored-in k n v e h
+worth-in k v BadWorth h e = tt
+
+checked-in : (v : ServiceSettings) (x : Worth) → InRange v → ChangeIn (checked v x)
+checked-in v (Value n) h = h
+checked-in v BadWorth h = tt
+
+setting-in : (s : SettingName) (w : List ℕ) (v : ServiceSettings) → InRange v → ChangeIn (settingOf s w v)
 unfolding settingOf
-setting-in p w =
-    by-test (SettingIn p) (eqb p 0) (kindOf w) _ (λ e. at-number p 0 (kindOf w) e (free 0 (kindOf w) (λ v. refl))) λ _.
-    by-test (SettingIn p) (eqb p 3) (flagOf w) _ (λ e. at-number p 3 (flagOf w) e (free 3 (flagOf w) (λ v. refl))) λ _.
-    by-test (SettingIn p) (eqb p 4) (noOf w) _ (λ e. at-number p 4 (noOf w) e (free 4 (noOf w) (λ v. refl))) λ _.
-    by-test (SettingIn p) (eqb p 7) (countOf w) _ (λ e. at-number p 7 (countOf w) e (counted (countOf w) (count-at-most w))) λ n.
-    by-test (SettingIn p) (eqb p 13) (signalOf w) _ (λ e. at-number p 13 (signalOf w) e (free 13 (signalOf w) (λ v. refl))) λ _.
-    by-test (SettingIn p) (takesTime p) (timeOf w) BadSetting (λ _. timed p (timeOf w) n (time-at-most w)) (λ _. tt)
+setting-in Restart w v h = worth-in 1 v (flagOf w) h (any-worth (flagOf w))
+setting-in SmoothRecovery w v h = checked-in v (noOf w) h
+setting-in RestartDelay w v h = worth-in 2 v (timeOf w) h (time-at-most w)
+setting-in RestartLimitInterval w v h = worth-in 3 v (timeOf w) h (time-at-most w)
+setting-in RestartLimitCount w v h = worth-in 4 v (countOf w) h (count-at-most w)
+setting-in StartTimeout w v h = worth-in 5 v (timeOf w) h (time-at-most w)
+setting-in StopTimeout w v h = worth-in 6 v (timeOf w) h (time-at-most w)
+setting-in TermSignal w v h = worth-in 7 v (signalOf w) h (any-worth (signalOf w))
 
 -- ---- a line's effect
 
 abbrev EffectIn : Effect → Type 0
 EffectIn Nothing = Unit {0}
-EffectIn (Setting p v) = inRule p v ≡ true
-EffectIn (Dependency p at) = Unit {0}
+EffectIn (Kind k) = Unit {0}
+EffectIn (Settings v) = InRange v
+EffectIn (Command c at) = Unit {0}
+EffectIn (Dependency l at) = Unit {0}
 
 abbrev LineIn : Line → Type 0
 LineIn (GoodLine e) = EffectIn e
 LineIn (BadLine f) = Unit {0}
 
-dependency-in : (text : List ℕ) (d : Description) (p at seen : ℕ) (w : List ℕ) → LineIn (dependencyRead text d p at seen w)
+-- what holds of both sides of a choice holds of the choice
+either-line : (b : Bool) (x y : Line) → LineIn x → LineIn y → LineIn (pick b x y)
+either-line true x y f g = f
+either-line false x y f g = g
+
+dependency-in : (text : List ℕ) (d : Description) (l : LinkName) (at seen : ℕ) (w : List ℕ) → LineIn (dependencyRead text d l at seen w)
 unfolding dependencyRead
-dependency-in text d p at seen w = by-test LineIn (known text d p w) _ _ (λ _. tt) λ _. by-test LineIn (ltb (d .count) maxDependencies) _ _ (λ _. tt) (λ _. tt)
+dependency-in text d l at seen w =
+    either-line (known text d l w) _ _ tt (either-line (ltb (d .count) maxDependencies) _ _ tt tt)
 
-word-in : (text : List ℕ) (d : Description) (p at seen : ℕ) (w : List ℕ) → LineIn (wordRead text d p at seen w)
-unfolding wordRead
-word-in text d p at seen w =
-    by-test LineIn (takesName p) _ _
-    (λ _. by-test LineIn (isName w) _ _ (λ _. dependency-in text d p at seen w) (λ _. tt))
-    (λ _. go (settingOf p w) (setting-in p w))
-  where
-    go : (s : SettingRead) → SettingIn p s → LineIn (settingRead p seen s)
-    go (Value v) h = h
-    go BadSetting h = tt
+module _ (text : List ℕ) (d : Description) (h : InRange (d .settings)) where
+  word-in : (p : Property) (at seen : ℕ) (w : List ℕ) → LineIn (wordRead text d p at seen w)
+  unfolding wordRead
+  word-in KindProperty at seen w = go (kindOf w)
+    where
+      go : (x : Worth) → LineIn (kindRead seen x)
+      go (Value n) = tt
+      go BadWorth = tt
+  word-in (Setting s) at seen w = go (settingOf s w (d .settings)) (setting-in s w (d .settings) h)
+    where
+      go : (x : Change) → ChangeIn x → LineIn (settingRead seen x)
+      go (To v) k = k
+      go Refused k = tt
+  word-in (Link l) at seen w = either-line (isName w) _ _ (dependency-in text d l at seen w) tt
+  word-in (CommandProperty c) at seen w = tt
+  word-in Unknown at seen w = tt
 
--- the offset of a command is in no range of the list
-command-in : (p at : ℕ) → takesCommand p ≡ true → inRule p at ≡ true
-command-in p at e =
-    either
-    (or-true (eqb p 1) (eqb p 2) .0 e)
-    (λ a. rw (eqb-true p 1 a))
-    (λ a. rw (eqb-true p 2 a))
+  single-in : (p : Property) (at seen : ℕ) (z : Sizes) (value : List ℕ) → LineIn (singleRead text d p at seen z value)
+  single-in p at seen z value = either-line (isWord z) _ _ (word-in p at seen (wordOf value)) tt
 
-tokens-in : (text : List ℕ) (d : Description) (p at seen : ℕ) (z : Sizes) (value : List ℕ) → LineIn (tokensRead text d p at seen z value)
-unfolding tokensRead
-tokens-in text d p at seen z value =
-    by-test LineIn (takesCommand p) _ _
-    (λ e. by-test LineIn (isCommand z) _ _ (λ _. command-in p at e) (λ _. tt))
-    (λ _. by-test LineIn (isWord z) _ _ (λ _. word-in text d p at seen (wordOf value)) (λ _. tt))
+  tokens-in : (p : Property) (at seen : ℕ) (z : Sizes) (value : List ℕ) → LineIn (tokensRead text d p at seen z value)
+  unfolding tokensRead
+  tokens-in (CommandProperty c) at seen z value = either-line (isCommand z) _ _ tt tt
+  tokens-in KindProperty at seen z value = single-in KindProperty at seen z value
+  tokens-in (Setting s) at seen z value = single-in (Setting s) at seen z value
+  tokens-in (Link l) at seen z value = single-in (Link l) at seen z value
+  tokens-in Unknown at seen z value = single-in Unknown at seen z value
 
-line-in : (text : List ℕ) (d : Description) (from : ℕ) (l : List ℕ) → LineIn (lineRead text d from l)
-unfolding lineRead propertyRead
-line-in text d from l = go (opening l)
-  where
-    scanned : (p at seen : ℕ) (s : Scan) (value : List ℕ) → LineIn (scanRead text d p at seen s value)
-    scanned p at seen (Tokens z) value = tokens-in text d p at seen z value
-    scanned p at seen (BadValue f) value = tt
+  line-in : (from : ℕ) (l : List ℕ) → LineIn (lineRead text d from l)
+  unfolding lineRead propertyRead
+  line-in from l = go (opening l)
+    where
+      scanned : (p : Property) (at seen : ℕ) (s : Scan) (value : List ℕ) → LineIn (scanRead text d p at seen s value)
+      scanned p at seen (Tokens z) value = tokens-in p at seen z value
+      scanned p at seen (BadValue f) value = tt
 
-    go : (o : Opening) → LineIn (openingRead text d from l o)
-    go Silent = tt
-    go (BadOpening f) = tt
-    go (Named s) = by-test LineIn (eqb (propertyOf (partOf l (s .from) (s .end))) unknownProperty) _ _ (λ _. tt)
-        (λ _. scanned (propertyOf (partOf l (s .from) (s .end))) (from + s .value) (from + whiteEnd l (s .value)) (scanOf (drop (s .value) l)) (drop (s .value) l))
+      go : (o : Opening) → LineIn (openingRead text d from l o)
+      go Silent = tt
+      go (BadOpening f) = tt
+      go (Named s) =
+          let p = propertyOf (partOf l (s .from) (s .end)) in
+          let value = drop (s .value) l in
+          either-line (isUnknown p) _ _ tt (scanned p (from + s .value) (from + whiteEnd l (s .value)) (scanOf value) value)
 
 -- ---- the settings of a description
 
-pub record InRange (d : Description) : Type 0 where
-  pub delay : leb (valueOf d 5) longestTime ≡ true
-  pub interval : leb (valueOf d 6) longestTime ≡ true
-  pub limit : leb (valueOf d 7) maxCount ≡ true
-  pub starting : leb (valueOf d 8) longestTime ≡ true
-  pub stopping : leb (valueOf d 9) longestTime ≡ true
-
-pub blank-in : InRange blank
-blank-in = record { delay = refl; interval = refl; limit = refl; starting = refl; stopping = refl }
-
-affected-in : (d : Description) (e : Effect) → InRange d → EffectIn e → InRange (affected d e)
+affected-in : (d : Description) (e : Effect) → InRange (d .settings) → EffectIn e → InRange (affected d e .settings)
 affected-in d Nothing h k = h
-affected-in d (Setting p v) h k = record {
-  delay = stored 5 (λ a. leb a longestTime ≡ true) (λ q. rw (← q) at k) (h .delay);
-  interval = stored 6 (λ a. leb a longestTime ≡ true) (λ q. rw (← q) at k) (h .interval);
-  limit = stored 7 (λ a. leb a maxCount ≡ true) (λ q. rw (← q) at k) (h .limit);
-  starting = stored 8 (λ a. leb a longestTime ≡ true) (λ q. rw (← q) at k) (h .starting);
-  stopping = stored 9 (λ a. leb a longestTime ≡ true) (λ q. rw (← q) at k) (h .stopping);
-}
-  where
-    stored : (i : ℕ) (P : ℕ → Type 0) → (i ≡ p → P v) → P (valueOf d i) → P (getD (set (d .values) p v) i 0)
-    stored i P f g = set-holds P (d .values) p i v 0 f g
-affected-in d (Dependency p at) h k = record { delay = h .delay; interval = h .interval; limit = h .limit; starting = h .starting; stopping = h .stopping }
+affected-in d (Kind t) h k = stored-in 0 (kindNumber t) (d .settings) refl h
+affected-in d (Settings v) h k = k
+affected-in d (Command Start at) h k = h
+affected-in d (Command Stop at) h k = stored-in 11 1 (d .settings) refl h
+affected-in d (Dependency l at) h k = h
 
-lines-in : (text : List ℕ) (d : Description) (from : ℕ) (ls : List (List ℕ)) → InRange d → InRange (linesRead text d from ls .description)
+lines-in : (text : List ℕ) (d : Description) (from : ℕ) (ls : List (List ℕ)) → InRange (d .settings)
+    → InRange (linesRead text d from ls .description .settings)
 unfolding linesRead
 lines-in text d from [] h = h
-lines-in text d from (l ∷ ls) h = go (lineRead text d from l) (line-in text d from l) (λ d′. lines-in text d′ (from + length l + 1) ls)
+lines-in text d from (l ∷ ls) h =
+    go (lineRead text d from l) (line-in text d h from l) (λ d′. lines-in text d′ (from + length l + 1) ls)
   where
-    go : (r : Line) → LineIn r → ((d′ : Description) → InRange d′ → InRange (linesRead text d′ (from + length l + 1) ls .description))
-        → InRange (readOn r d (λ d′. linesRead text d′ (from + length l + 1) ls) .description)
+    go : (r : Line) → LineIn r
+        → ((d′ : Description) → InRange (d′ .settings) → InRange (linesRead text d′ (from + length l + 1) ls .description .settings))
+        → InRange (readOn r d (λ d′. linesRead text d′ (from + length l + 1) ls) .description .settings)
     go (GoodLine e) k rest = rest (affected d e) (affected-in d e h k)
     go (BadLine f) k rest = h
 
-pub text-in : (text : List ℕ) → InRange (textRead text .description)
+pub text-in : (text : List ℕ) → InRange (textRead text .description .settings)
 unfolding textRead
 text-in text = go (badFrom 0 text)
   where
-    go : (v : Verdict) → InRange (cleanRead v blank (linesRead text blank 0 (linesOf text)) .description)
-    go Good = lines-in text blank 0 (linesOf text) blank-in
-    go (Bad f) = blank-in
+    go : (v : Verdict) → InRange (cleanRead v blank (linesRead text blank 0 (linesOf text)) .description .settings)
+    go Good = lines-in text blank 0 (linesOf text) default-ranged
+    go (Bad f) = default-ranged

@@ -6,6 +6,7 @@ use mathlib.Core.Path.{_≡_, ap, refl}
 use Rattle.base.specs.Folds.{every, first, some}
 use Rattle.base.specs.Links.{cyclic, reach}
 use Rattle.base.specs.Sets.{hasBit, within}
+use Rattle.service.specs.Numbers.{settingsFrom}
 use Rattle.service.specs.Records.{freshState, recordAt, withRecord}
 use Rattle.service.specs.Settings.{settingsAt}
 use Rattle.service.specs.declared.Table.{Table}
@@ -26,11 +27,11 @@ use Rattle.load_word.specs.Decimals.{countEnd, countOf, decimalFrom, digitOf, r
 use Rattle.load_word.specs.Properties.{propertyNames, propertyOf, settingOf}
 use Rattle.load_word.specs.Words.{flagOf, isName, kindOf, nameBytes, noOf, signalNames, signalOf}
 use Rattle.load_description.specs.Lines.{dependencyRead, lineRead, propertyRead, tokensRead, wordRead}
-use Rattle.load_description.specs.Settings.{known, valueAt, valueOf, wordAt}
+use Rattle.load_description.specs.Settings.{known, valueAt, wordAt}
 use Rattle.load_description.specs.Texts.{completion, linesRead, textRead}
-use Rattle.load_tokens.specs.Tokens.{commandBytes}
 use Rattle.loader.specs.Examples.{Service, loadOf, pair-loads, pair as pairTexts}
 use Rattle.loader.specs.Load.{Outcome}
+use Rattle.loader.specs.Tokens.{commandBytes, commandCount}
 
 -- a time and a command's value, as they stand in a description
 unfoldable pub timeText : String → List ℕ
@@ -54,12 +55,12 @@ pub data Case : Type 0 where
   played : List Service → Table → List Call → List Answer → Case
 
 abbrev pub Passes : Case → Type 0
-Passes (time s n) = (textRead (timeText s) .answer ≡ Good) × (valueOf (textRead (timeText s) .description) 5 ≡ n)
+Passes (time s n) = (textRead (timeText s) .answer ≡ Good) × (textRead (timeText s) .description .settings .delay ≡ n)
 Passes (refusedTime s n) = refusalOf (textRead (timeText s) .answer) ≡ n
 Passes (value s v w) =
     (textRead (valueText s) .answer ≡ Good)
-    × (spaced (valueAt (valueText s) (valueOf (textRead (valueText s) .description) 1)) ≡ bytes v)
-    × (commandBytes (valueText s) (valueOf (textRead (valueText s) .description) 1) ≡ bytes w)
+    × (spaced (valueAt (valueText s) (textRead (valueText s) .description .kept .command)) ≡ bytes v)
+    × (commandBytes (valueText s) (textRead (valueText s) .description .kept .command) ≡ bytes w)
 Passes (refusedValue s n) = refusalOf (textRead (valueText s) .answer) ≡ n
 Passes (played ss t cs as′) = (loadOf ss 30 .loaded .table ≡ t) × (answers t freshState cs ≡ as′)
 
@@ -85,5 +86,5 @@ cases =
 
 -- THE STATEMENT
 pub worked : AllPass cases
-unfolding timeText valueText countFrom pairCalls pairAnswers answers some every first hasBit within reach cyclic settingsAt recordAt withRecord freshState hardLinks strongLinks allLinks hard strong soft depends blocked needed tableFormed shapedAt stateFormed formed each startReaches afterStart afterStop afterStopAll endedAs afterEnd afterClock due fits lostToUser leaves hands chosenFrom chosen act actOn nextAction check outcome bytes same indexFrom partOf run lineOf linesOf badFrom lineFrom lineNumber opening stepOf bareStep faultFrom marksFrom scanOf written leading wordOf flagOf noOf kindOf signalNames signalOf nameBytes isName digitOf readOf decimalFrom timeEnd timeOf countEnd countOf propertyNames propertyOf settingOf valueAt wordAt known dependencyRead wordRead tokensRead propertyRead lineRead completion linesRead textRead commandBytes joined spaced
+unfolding timeText valueText countFrom pairCalls pairAnswers answers some every first hasBit within reach cyclic settingsAt recordAt withRecord freshState hardLinks strongLinks allLinks hard strong soft depends blocked needed tableFormed shapedAt stateFormed formed each startReaches afterStart afterStop afterStopAll endedAs afterEnd afterClock due fits lostToUser leaves hands chosenFrom chosen act actOn nextAction check outcome bytes same indexFrom partOf run lineOf linesOf badFrom lineFrom lineNumber opening stepOf bareStep faultFrom marksFrom scanOf written leading wordOf flagOf noOf kindOf signalNames signalOf nameBytes isName digitOf readOf decimalFrom timeEnd timeOf countEnd countOf propertyNames propertyOf settingOf valueAt wordAt known dependencyRead wordRead tokensRead propertyRead lineRead completion linesRead textRead settingsFrom commandCount commandBytes joined spaced
 worked = ((refl, refl), ((refl, refl), (refl, (refl, (refl, (refl, ((refl, refl, refl), (refl, ((refl, refl, refl), ((refl, refl, refl), ((ap (λ (o : Outcome). o .loaded .table) pair-loads, refl), tt)))))))))))

@@ -15,14 +15,14 @@ abbrev μ-loop : tie.MeasureT-loop
 loop-holds : tie.Need-loop-holds Inv-loop μ-loop
 loop-holds c = search sizes-none
 
+loop-again : tie.Need-loop-again Inv-loop μ-loop
+loop-again c = search sizes-fit
+
 returns : tie.Need-returns Inv-loop μ-loop
 returns c = search sizes-long
 
 returns-2 : tie.Need-returns-2 Inv-loop μ-loop
 returns-2 c = search sizes-many
-
-loop-again : tie.Need-loop-again Inv-loop μ-loop
-loop-again c = search sizes-fit
 
 returns-3 : tie.Need-returns-3 Inv-loop μ-loop
 returns-3 c = search sizes-all

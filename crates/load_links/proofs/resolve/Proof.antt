@@ -12,11 +12,11 @@ Inv-loop lent ends text d n l₀ k₀ l k = Linking (nameAt lent ends) n text d 
 abbrev μ-loop : tie.MeasureT-loop
 μ-loop lent ends text d n l₀ k₀ l k = d .count - k
 
-returns : tie.Need-returns Inv-loop μ-loop
-returns c = search linking-many
-
 loop-holds : tie.Need-loop-holds Inv-loop μ-loop
 loop-holds c = search linking-none
+
+returns : tie.Need-returns Inv-loop μ-loop
+returns c = search linking-many
 
 loop-again : tie.Need-loop-again Inv-loop μ-loop
 loop-again c = search linking-more
