@@ -130,7 +130,8 @@ first-from : (z : Sizes) (ks : List Mark) → z .tokens ≡ 0 → sizesFrom z ks
 unfolding sizesFrom firstOf
 first-from z [] e = sym (add-zero (z .first))
 first-from z (kept b ∷ ks) e =
-    let one : pick (eqb (z .tokens) 0) (z .first + 1) (z .first) ≡ z .first + 1 = ap (λ (t : Bool). pick t (z .first + 1) (z .first)) (eq-eqb (z .tokens) 0 e) in
+    let more : Bool → ℕ = λ t. pick t (z .first + 1) (z .first) in
+    let one : more (eqb (z .tokens) 0) ≡ z .first + 1 = ap more (eq-eqb (z .tokens) 0 e) in
     omega (arith, first-from (counted z (kept b)) ks e, one)
 first-from z (close ∷ ks) e = first-stays (counted z close) ks (omega arith) ∙ sym (add-zero (z .first))
 
