@@ -24,15 +24,15 @@ PROMISED = [
     ('load', 'crates/loader/src/lib.rt',
      '(record { loaded = r; buffer = now (tokens .exit) }) (load (now (lent .entry)) (now (ends .entry)) (now (tokens .entry)))'),
     ('outcome', 'crates/rules/specs/Calls.antt', 'unfoldable pub outcome : Table → State → Call → Outcome'),
-    ('start', 'crates/events/src/lib.rt', 'changedOutcome y ≡ outcome t x (startCall s)'),
-    ('stop', 'crates/events/src/lib.rt', 'changedOutcome y ≡ outcome t x (stopCall s)'),
-    ('stop_all', 'crates/events/src/lib.rt', 'changedOutcome y ≡ outcome t x stopAll'),
-    ('end', 'crates/events/src/lib.rt', 'changedOutcome y ≡ outcome t x (endCall s good)'),
-    ('clock', 'crates/events/src/lib.rt', 'changedOutcome y ≡ outcome t x (clockCall to)'),
+    ('start', 'crates/engine_calls/src/lib.rt', 'changedOutcome y ≡ outcome t x (startCall s)'),
+    ('stop', 'crates/engine_calls/src/lib.rt', 'changedOutcome y ≡ outcome t x (stopCall s)'),
+    ('stop_all', 'crates/engine_calls/src/lib.rt', 'changedOutcome y ≡ outcome t x stopAll'),
+    ('end', 'crates/engine_calls/src/lib.rt', 'changedOutcome y ≡ outcome t x (endCall s good)'),
+    ('clock', 'crates/engine_calls/src/lib.rt', 'changedOutcome y ≡ outcome t x (clockCall to)'),
     ('next_action', 'crates/engine/src/lib.rt', 'steppedOutcome y ≡ outcome t x nextCall'),
     ('run_to_quiet', 'crates/engine/src/lib.rt',
      'ranOutcome r (now (services .exit)) (now (actions .exit)) ≡ outcome t x (runCall (now (services .entry)) (now (actions .entry)))'),
-    ('query', 'crates/query/src/lib.rt', 'queryOutcome a x ≡ outcome t x queryCall'),
+    ('query', 'crates/engine_calls/src/lib.rt', 'queryOutcome a x ≡ outcome t x queryCall'),
     ('fresh', 'crates/engine/src/lib.rt', 'x ≡ freshState'),
     ('cases', 'crates/guarantee/specs/Worked.antt', 'abbrev pub cases : List Case'),
     ('worked', 'crates/guarantee/specs/Worked.antt', 'pub worked : AllPass cases'),
@@ -61,6 +61,10 @@ STATEMENT = 'crates/rules/specs/Demand.antt'
 STATEMENTS = ['Holds', 'Demand3', 'RestsEverywhere', 'AlwaysFormed']
 RESTS_ON = '-- ---- WHAT THE STATEMENT RESTS ON'
 
+# How a file of definitions begins: what a reader must believe, and what mirrors the code and is discharged by laws.
+KINDS = ('-- Trusted: ', '-- Of the code: ')
+TRUSTED = '### All that the statements rest on, by file'
+
 # The file of the load.
 LOADING = 'crates/loader/specs/Load.antt'
 
@@ -72,17 +76,20 @@ WORDS = ['Call', 'afterCalls', 'freshState', 'accepted', 'Moment', 'Mark', 'stor
          'servicesFrom', 'lowestCyclic', 'stored', 'settingsOf', 'refusalNumber']
 
 # The wrong programs that paper 01 names. Any other edit may go together with its row; these may not.
-SHUT_OUT = ['loader/refuses_all', 'loader/one_fixed_table', 'engine/always_quiet', 'events/ignores_start', 'events/ignores_stop_all',
-            'events/ignores_clock', 'engine/shutdown_in_one_action', 'engine/run_invents_its_number', 'engine/run_writes_past_its_number',
+SHUT_OUT = ['loader/refuses_all', 'loader/one_fixed_table', 'engine/always_quiet', 'engine_calls/ignores_start', 'engine_calls/ignores_stop_all',
+            'engine_calls/ignores_clock', 'engine/shutdown_in_one_action', 'engine/run_invents_its_number', 'engine/run_writes_past_its_number',
             'rules/launches_before_averager_ended', 'rules/ends_while_blocked', 'rules/deadline_before_launch', 'rules/settles_user_wanted',
-            'rules/releases_before_waking', 'rules/begins_on_closing', 'events/ignores_stop', 'events/ignores_end', 'settling/restarts_after_stop',
-            'record_tests/closing_is_serving', 'rule_records/start_timeout_from_before_launch']
+            'rules/releases_before_waking', 'rules/begins_on_closing', 'engine_calls/ignores_stop', 'engine_calls/ignores_end', 'engine_settling/restarts_after_stop',
+            'engine_record_tests/closing_is_serving', 'engine_records/start_timeout_from_before_launch']
 
 # What README.md names of each demand, so that a reader needs no other page to find it.
 ON_README = ['refusal-leaves-all', 'refused-load-leaves-all', 'load', 'outcome', 'Guarantee', 'guarantee']
 
 # Quoted words of a page that are nobody's declaration: programs, libraries and words of the toolchain's verdict, signs of Rattle's own.
 FOREIGN = {'rt', 'cargo', 'python3', 'valgrind', 'libc', 'os', 'io', 'check', 'requires', 'ensures', 'specs', 'proofs', 'memcpy'}
+
+# The crates that a host names; they hand on what they are made of.
+HANDED_ON_BY = ('engine', 'loader')
 
 # What the sketch of a host leaves to the host.
 SKETCHED = {'Happening', 'act', 'is_all_down', 'serve', 'launch', 'send', 'now', 'happening'}
@@ -134,6 +141,7 @@ class Check:
         self.statements()
         self.definitions()
         self.rests_on()
+        self.trusted()
         self.edits()
         self.contracts()
         self.host()
@@ -233,6 +241,27 @@ class Check:
         for file, name in self.tree.comes_down_to(LOADING, ['load']) - told:
             self.fault(AUDIT, f'it leaves out {name} of {file}, which the load rests on')
 
+    def trusted(self):
+        """Every file of definitions says first whether a reader must believe it. The auditor's list has those that he must, and no other, and all that
+        the statements and the load come down to is among them."""
+        marked = set()
+        for path in self.tree.glob('crates/*/specs/*.antt'):
+            first = self.tree.text(path).split('\n')[0]
+            if not first.startswith(KINDS):
+                self.fault(path, f'its first line says neither of {", ".join(kind.strip("- ") for kind in KINDS)}')
+            if first.startswith(KINDS[0]):
+                marked.add(path)
+        page = self.whole[AUDIT]
+        section = page[page.find(TRUSTED):].split('\n## ')[0] if TRUSTED in page else ''
+        listed = {file for row in rows(section) for file in files_in(row) if '/specs/' in file}
+        for path in sorted(marked - listed):
+            self.fault(AUDIT, f'its list leaves out {path}, which is trusted')
+        for path in sorted(listed - marked):
+            self.fault(AUDIT, f'its list has {path}, which is not trusted')
+        for file, name in self.tree.comes_down_to(STATEMENT, STATEMENTS) | self.tree.comes_down_to(LOADING, ['load']):
+            if '/specs/' in file and file not in marked:
+                self.fault(file, f'what the statements come down to is here, {name}, and it is not trusted')
+
     def edits(self):
         """The must-fail edits of the tree and those of the page are the same, each with its path in one row."""
         named = [q for row in rows(self.whole[AUDIT]) for q in quoted(row) if q.endswith('.edit')]
@@ -273,7 +302,9 @@ class Check:
                 for name in re.findall(r'(?m)^\s*pub const (\w+)', self.tree.bare(path)):
                     types[f'{crate}::{name}'] = name
                 for other, name in re.findall(r'(?m)^pub use (\w+)::(\w+);', self.tree.bare(path)):
-                    functions[f'{crate}::{name}'] = functions.get(f'{other}::{name}', '')
+                    for kept in (functions, types):
+                        if f'{other}::{name}' in kept:
+                            kept[f'{crate}::{name}'] = kept[f'{other}::{name}']
         for first, second in re.findall(r'\b(\w+)::(\w+)', self.whole[HOST]):
             name = f'{first}::{second}'
             if first not in SKETCHED and name not in functions and name not in types and second not in inside.get(first, ()):
@@ -283,8 +314,13 @@ class Check:
             call = re.fullmatch(r'(?:let \w+ = )?(\w+)::(\w+)(\([^;]*\) -> .*)', line)
             if call and functions.get(f'{call[1]}::{call[2]}') != call[2] + call[3]:
                 self.fault(HOST, f'{line}: the sources have {functions.get(f"{call[1]}::{call[2]}")}')
-            if re.match(r'(?:struct|enum) ', line) and line.split()[1] not in SKETCHED and line not in spoken:
-                self.fault(HOST, f'{line}: the sources have no such type')
+            if call and call[1] not in HANDED_ON_BY + ('plain',):
+                self.fault(HOST, f'{line}: {call[1]} is a crate that no host names')
+            if re.match(r'(?:struct|enum) ', line) and line.split()[1] not in SKETCHED:
+                if line not in spoken:
+                    self.fault(HOST, f'{line}: the sources have no such type')
+                if not any(f'{crate}::{line.split()[1]}' in types for crate in HANDED_ON_BY):
+                    self.fault(HOST, f'{line.split()[1]} is handed on by neither of {", ".join(HANDED_ON_BY)}')
 
     def structure(self):
         """The table of crates and what each imports is crates.txt's; the toolchain's own libraries are left out."""

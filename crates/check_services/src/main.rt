@@ -1,15 +1,15 @@
 // Reads names from standard input, loads the files of these names in the current folder, and writes what was loaded, or the refusal.
+use libc::STDIN_FILENO;
+use libc::STDOUT_FILENO;
 use load_lent::Answer;
 use load_lent::MAX_TEXT;
 use load_lent::MAX_TEXTS;
 use load_lent::name_at;
-use libc::STDIN_FILENO;
-use libc::STDOUT_FILENO;
+use load_text::LONGEST_NAME;
 use loader::Loaded;
 use service::Kind;
 use service::MAX_SERVICES;
 use service::Table;
-use load_word::LONGEST_NAME;
 ghost use Prim.Native.Nat.{_≤_};
 ghost use lib.ListN.{length};
 

@@ -1,2 +1,3 @@
 -- The laws, each file after those that it cites.
 pub mod Words
+pub mod Spaced

@@ -11,6 +11,7 @@ use Rattle.load_text.specs.declared.Verdict.{Verdict}
 use Rattle.load_text.specs.declared.Verdict.the-variants.{Good, Bad}
 use Rattle.load_value.specs.Steps.{stepOf, bareStep}
 use Rattle.load_value.specs.Values.{faultFrom, marksFrom, sizesFrom, scanOf, written, leading, wordOf}
+use Rattle.service.specs.Numbers.{settingsFrom}
 use Rattle.load_word.specs.Words.{flagOf, noOf, kindOf, signalNames, signalOf, nameBytes, isName}
 use Rattle.load_word.specs.Decimals.{digitOf, readOf, decimalFrom, timeEnd, timeOf, countEnd, countOf}
 use Rattle.load_word.specs.Properties.{propertyNames, propertyOf, settingOf}
@@ -84,5 +85,5 @@ abbrev given : Example → Outcome
 given e = record { verdict = e .verdict; line = e .line }
 
 pub examples-hold : map outcome examples ≡ map given examples
-unfolding some bytes same indexFrom partOf run lineOf linesOf badFrom lineFrom lineNumber opening stepOf bareStep faultFrom marksFrom sizesFrom scanOf written leading wordOf flagOf noOf kindOf signalNames signalOf nameBytes isName digitOf readOf decimalFrom timeEnd timeOf countEnd countOf propertyNames propertyOf settingOf valueAt wordAt known dependencyRead wordRead tokensRead propertyRead lineRead completion linesRead textRead
+unfolding some bytes same indexFrom partOf run lineOf linesOf badFrom lineFrom lineNumber opening stepOf bareStep faultFrom marksFrom sizesFrom scanOf written leading wordOf flagOf noOf kindOf signalNames signalOf nameBytes isName digitOf readOf decimalFrom timeEnd timeOf countEnd countOf propertyNames propertyOf settingOf settingsFrom valueAt wordAt known dependencyRead wordRead tokensRead propertyRead lineRead completion linesRead textRead
 examples-hold = refl

@@ -17,6 +17,7 @@ use Rattle.load_value.specs.declared.Scan.the-variants.{Tokens, Bad as BadValue
 use Rattle.service.specs.Numbers.{kindAt}
 use Rattle.load_word.specs.declared.Property.{Property}
 use Rattle.load_word.specs.declared.Property.the-variants.{Kind as KindProperty, Setting, Command as CommandProperty, Link, Unknown}
+use Rattle.load_word.specs.declared.Command.{Command as CommandName}
 use Rattle.load_word.specs.declared.Link.{Link as LinkName}
 use Rattle.load_word.specs.declared.Worth.{Worth}
 use Rattle.load_word.specs.declared.Worth.the-variants.{Value, Bad as BadWorth}
@@ -64,8 +65,11 @@ abbrev pub singleRead : List ℕ → Description → Property → ℕ → ℕ �
 singleRead text d p at seen z value = pick (isWord z) (wordRead text d p at seen (wordOf value)) (outside seen)
 
 -- a command is kept by the offset of its value
+abbrev pub commandRead : CommandName → ℕ → ℕ → Sizes → Line
+commandRead c at seen z = pick (isCommand z) (Good (Command c at)) (outside seen)
+
 unfoldable pub tokensRead : List ℕ → Description → Property → ℕ → ℕ → Sizes → List ℕ → Line
-tokensRead text d (CommandProperty c) at seen z value = pick (isCommand z) (Good (Command c at)) (outside seen)
+tokensRead text d (CommandProperty c) at seen z value = commandRead c at seen z
 tokensRead text d KindProperty at seen z value = singleRead text d KindProperty at seen z value
 tokensRead text d (Setting s) at seen z value = singleRead text d (Setting s) at seen z value
 tokensRead text d (Link l) at seen z value = singleRead text d (Link l) at seen z value

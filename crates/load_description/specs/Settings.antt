@@ -114,8 +114,11 @@ abbrev pub isLink : Link → Link → Bool
 isLink a b = eqb (linkNumber a) (linkNumber b)
 
 -- how many places of the dependencies are taken: no more than there are
+abbrev pub takenOf : ℕ → ℕ
+takenOf n = pick (leb n maxDependencies) n maxDependencies
+
 abbrev pub taken : Description → ℕ
-taken d = pick (leb (d .count) maxDependencies) (d .count) maxDependencies
+taken d = takenOf (d .count)
 
 -- "the same kind and name twice counts once": the description has this dependency
 abbrev pub isDependency : List ℕ → Named → Link → List ℕ → Bool

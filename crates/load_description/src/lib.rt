@@ -1,8 +1,4 @@
 // What one description holds: its settings and the dependencies that it names, and what a line with a good value adds to them.
-use service::Kind;
-use service::Settings;
-use service::Signal;
-use service::signal_number;
 use load_text::Fault;
 use load_text::Verdict;
 use load_text::line_end;
@@ -12,14 +8,22 @@ use load_value::LONGEST_WORD;
 use load_value::Sizes;
 use load_value::WORD_ROOM;
 use load_value::write_word;
-use load_word::Setting;
+use load_word::Change;
+use load_word::Command;
+use load_word::Link;
+use load_word::Property;
+use load_word::Worth;
 use load_word::is_name;
-use load_word::kind_from;
+use load_word::read_kind;
 use load_word::read_setting;
+use service::Kind;
+use service::Settings;
+use service::kind_at;
 ghost use mathlib.Core.Path.{_≡_};
+ghost use Prim.Native.Nat.{_≤_};
 ghost use Rattle.load_value.specs.Stores.{Puts};
-ghost use Rattle.load_description.specs.Settings.{blank, valueAt, wordAt, isDependency, known};
-ghost use Rattle.load_description.specs.Lines.{dependencyRead, settingRead, wordRead, tokensRead};
+ghost use Rattle.load_description.specs.Settings.{blank, valueAt, wordAt, linkNumber, maxDependencies, takenOf, isDependency, known};
+ghost use Rattle.load_description.specs.Lines.{outside, commandRead, dependencyRead, kindRead, settingRead, wordRead, tokensRead};
 ghost use Rattle.load_description.specs.Texts.{needsCommand, completion};
 
 // How many dependencies a service may have.
@@ -69,29 +73,21 @@ pub struct Read {
 }
 
 impl Description {
-    // All settings by default, no type and no dependencies.
+    // All settings by default, no type, nothing kept and no dependencies.
     pub fn blank() -> Description
         ensures { λ r. ⌜ r ≡ blank ⌝ }
     {
-        let none = Dependency { property: 0, at: 0 };
-        let signal = signal_number(Signal::Term);
+        let none = Dependency {
+            link: Link::DependsOn,
+            at: 0,
+        };
         Description {
-            values: [
-                0,
-                0,
-                0,
-                0,
-                0,
-                Settings::RESTART_DELAY,
-                Settings::RESTART_LIMIT_INTERVAL,
-                Settings::RESTART_LIMIT_COUNT,
-                Settings::START_TIMEOUT,
-                Settings::STOP_TIMEOUT,
-                0,
-                0,
-                0,
-                signal,
-            ],
+            settings: Settings::default(),
+            typed: false,
+            kept: Kept {
+                command: 0,
+                stop: 0,
+            },
             count: 0,
             dependencies: [none; MAX_DEPENDENCIES],
         }
@@ -112,11 +108,23 @@ pub fn write_word_at(text: &[u8], at: usize, buffer: &mut [u8]) -> usize
     write_word(value_at(text, at), buffer)
 }
 
-// The dependency is one on the word by the property.
-fn is_dependency(text: &[u8], e: Dependency, property: usize, word: &[u8]) -> bool
-    ensures { λ r. ⌜ r ≡ isDependency (now (text .entry)) e property (now (word .entry)) ⌝ }
+// A kind of dependency by its number.
+fn link_number(l: Link) -> u64
+    ensures { λ n. ⌜ n ≡ linkNumber l ⌝ }
 {
-    let alike = e.property == property;
+    match l {
+        Link::DependsOn => 0,
+        Link::DependsMs => 1,
+        Link::WaitsFor => 2,
+    }
+}
+
+// The dependency is one of the kind on the word.
+fn is_dependency(text: &[u8], e: Dependency, l: Link, word: &[u8]) -> bool
+    ensures { λ r. ⌜ r ≡ isDependency (now (text .entry)) e l (now (word .entry)) ⌝ }
+{
+    let own = e.link;
+    let alike = link_number(own) == link_number(l);
     if alike {
         let mut buffer = [0u8; WORD_ROOM];
         let n = write_word_at(text, e.at, &mut buffer);
@@ -125,39 +133,81 @@ fn is_dependency(text: &[u8], e: Dependency, property: usize, word: &[u8]) -> bo
     false
 }
 
-// The description has a dependency on the word by the property.
-fn is_known(text: &[u8], d: Description, property: usize, word: &[u8]) -> bool
-    ensures { λ r. ⌜ r ≡ known (now (text .entry)) d property (now (word .entry)) ⌝ }
+// How many places of the dependencies are taken.
+pub fn taken(count: usize) -> usize
+    ensures { λ n. ⌜ n ≡ takenOf count ⌝ }
+    ensures few { λ n. ⌜ n ≤ maxDependencies ⌝ }
 {
+    if count <= MAX_DEPENDENCIES {
+        return count;
+    }
+    MAX_DEPENDENCIES
+}
+
+// The description has a dependency of the kind on the word.
+fn is_known(text: &[u8], d: Description, l: Link, word: &[u8]) -> bool
+    ensures { λ r. ⌜ r ≡ known (now (text .entry)) d l (now (word .entry)) ⌝ }
+{
+    let n = taken(d.count);
     let mut found = false;
     let mut k: usize = 0;
-    while k < MAX_DEPENDENCIES {
+    while k < n {
         let e = d.dependencies[k];
-        let hit = is_dependency(text, e, property, word);
+        let hit = is_dependency(text, e, l, word);
         found = found | hit;
         k += 1;
     }
     found
 }
 
-// A dependency on a word by a property.
+// A value outside its property's rule.
+fn outside(seen: usize) -> Line
+    ensures { λ r. ⌜ r ≡ outside seen ⌝ }
+{
+    Line::Bad(Fault {
+        number: 11,
+        at: seen,
+    })
+}
+
+// What a type's word makes of its line.
+fn kind_line(seen: usize, w: Worth) -> Line
+    ensures { λ r. ⌜ r ≡ kindRead seen w ⌝ }
+{
+    let Worth::Value(n) = w else {
+        return outside(seen);
+    };
+    Line::Good(Effect::Kind(kind_at(n)))
+}
+
+// What a setting's word makes of its line.
+fn setting_line(seen: usize, c: Change) -> Line
+    ensures { λ r. ⌜ r ≡ settingRead seen c ⌝ }
+{
+    match c {
+        Change::To(v) => Line::Good(Effect::Settings(v)),
+        Change::Refused => outside(seen),
+    }
+}
+
+// A dependency on a word.
 fn read_dependency(
     text: &[u8],
     d: Description,
-    property: usize,
+    l: Link,
     at: usize,
     seen: usize,
     word: &[u8],
 ) -> Line
-    ensures { λ r. ⌜ r ≡ dependencyRead (now (text .entry)) d property at seen (now (word .entry)) ⌝ }
+    ensures { λ r. ⌜ r ≡ dependencyRead (now (text .entry)) d l at seen (now (word .entry)) ⌝ }
 {
-    let repeated = is_known(text, d, property, word);
+    let repeated = is_known(text, d, l, word);
     let room = d.count < MAX_DEPENDENCIES;
     if repeated {
         return Line::Good(Effect::Nothing);
     }
     if room {
-        return Line::Good(Effect::Dependency(property, at));
+        return Line::Good(Effect::Dependency(l, at));
     }
     Line::Bad(Fault {
         number: 12,
@@ -165,78 +215,68 @@ fn read_dependency(
     })
 }
 
-// What a setting makes of its line.
-fn setting_line(property: usize, seen: usize, s: Setting) -> Line
-    ensures { λ r. ⌜ r ≡ settingRead property seen s ⌝ }
-{
-    match s {
-        Setting::Value(v) => Line::Good(Effect::Setting(property, v)),
-        Setting::Bad => Line::Bad(Fault {
-            number: 11,
-            at: seen,
-        }),
-    }
-}
-
 // A line of a property that takes a word.
 fn read_word_line(
     text: &[u8],
     d: Description,
-    property: usize,
+    p: Property,
     at: usize,
     seen: usize,
     word: &[u8],
 ) -> Line
-    ensures { λ r. ⌜ r ≡ wordRead (now (text .entry)) d property at seen (now (word .entry)) ⌝ }
+    ensures { λ r. ⌜ r ≡ wordRead (now (text .entry)) d p at seen (now (word .entry)) ⌝ }
 {
-    let naming = (10 <= property) & (property <= 12);
-    if naming {
-        let good = is_name(word);
-        if good {
-            return read_dependency(text, d, property, at, seen, word);
+    match p {
+        Property::Kind => kind_line(seen, read_kind(word)),
+        Property::Setting(s) => {
+            let v = d.settings;
+            setting_line(seen, read_setting(s, word, v))
         }
-        return Line::Bad(Fault {
-            number: 11,
-            at: seen,
-        });
+        Property::Link(l) => {
+            let good = is_name(word);
+            if good {
+                return read_dependency(text, d, l, at, seen, word);
+            }
+            outside(seen)
+        }
+        Property::Command(_) => outside(seen),
+        Property::Unknown => outside(seen),
     }
-    let s = read_setting(property, word);
-    setting_line(property, seen, s)
+}
+
+// A line of a command.
+fn command_line(c: Command, at: usize, seen: usize, sizes: Sizes) -> Line
+    ensures { λ r. ⌜ r ≡ commandRead c at seen sizes ⌝ }
+{
+    let good = 0 < sizes.first;
+    if good {
+        return Line::Good(Effect::Command(c, at));
+    }
+    outside(seen)
 }
 
 // A line whose value has no fault.
 pub fn read_tokens(
     text: &[u8],
     d: Description,
-    property: usize,
+    p: Property,
     at: usize,
     seen: usize,
     sizes: Sizes,
     value: &[u8],
 ) -> Line
-    ensures { λ r. ⌜ r ≡ tokensRead (now (text .entry)) d property at seen sizes (now (value .entry)) ⌝ }
+    ensures { λ r. ⌜ r ≡ tokensRead (now (text .entry)) d p at seen sizes (now (value .entry)) ⌝ }
 {
-    let command = (property == 1) | (property == 2);
-    if command {
-        let good = 0 < sizes.first;
-        if good {
-            return Line::Good(Effect::Setting(property, at as u64));
-        }
-        return Line::Bad(Fault {
-            number: 11,
-            at: seen,
-        });
+    if let Property::Command(c) = p {
+        return command_line(c, at, seen, sizes);
     }
     let single = (sizes.tokens == 1) & (0 < sizes.first) & (sizes.first <= LONGEST_WORD);
     if single {
         let mut buffer = [0u8; WORD_ROOM];
         let n = write_word(value, &mut buffer);
-        return read_word_line(text, d, property, at, seen, part(&buffer, 0, n));
+        return read_word_line(text, d, p, at, seen, part(&buffer, 0, n));
     }
-    Line::Bad(Fault {
-        number: 11,
-        at: seen,
-    })
+    outside(seen)
 }
 
 // A service of this type is launched by a command.
@@ -254,10 +294,10 @@ fn needs_command(k: Kind) -> bool
 pub fn complete(d: Description) -> Verdict
     ensures { λ r. ⌜ r ≡ completion d ⌝ }
 {
-    let kind = d.values[0];
-    let command = d.values[1];
-    let missing = kind == 0;
-    let lacking = needs_command(kind_from(kind)) & (command == 0);
+    let missing = !d.typed;
+    let settings = d.settings;
+    let kind = settings.kind;
+    let lacking = needs_command(kind) & (d.kept.command == 0);
     if missing {
         return Verdict::Bad(Fault { number: 13, at: 0 });
     }

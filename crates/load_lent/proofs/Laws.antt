@@ -1,6 +1,6 @@
 -- The laws of the lent positions, names and sizes, as loops go through them.
 use Prim.Native.Nat.{_*_, _+_, _-_, _/_, _<_, _≤_, ℕ}
-use borrow.Author.Tests.{le-ltb, lt-ltb, ne-eqb}
+use borrow.Author.Tests.{le-leb, le-ltb, lt-ltb, ne-eqb}
 use lib.Dec.{eqb, leb, ltb}
 use lib.ListN.{List·getD-eq-default, drop, drop-of-length-le, getD, length}
 use mathlib.Core.Bool.{Bool, _&&_, false, true}
@@ -12,8 +12,10 @@ use Rattle.base.proofs.Counting.{drop-more, one-left}
 use Rattle.base.proofs.Tests.{or-all}
 use Rattle.load_word.specs.Words.{isName}
 use Rattle.load_lent.specs.Checks.{find, longestText, longestTexts, namesFrom, sizesFrom}
-use Rattle.load_lent.specs.Parts.{nameStart, risesTo}
-use Rattle.load_lent.specs.declared.Answer.the-variants.{Accepted, Refused}
+use Rattle.load_lent.specs.Parts.{nameStart, risesTo, serviceCount, within}
+use Rattle.load_lent.specs.Refusals.{bare}
+use Rattle.load_lent.specs.declared.Answer.{Answer}
+use Rattle.load_lent.specs.declared.Answer.the-variants.{Accepted}
 
 -- ---- the positions
 
@@ -39,6 +41,10 @@ past-last s j h = (
 pub past-even : (s : List ℕ) (j : ℕ) → length s ≤ 2 * j → getD s (2 * j + 1) 0 ≡ 0
 past-even s j h = List·getD-eq-default s 0 (omega arith)
 
+-- of services lent there are as many as are asked for
+pub within-few : (n : ℕ) (ends : List ℕ) → n ≤ serviceCount ends → within n ends ≡ n
+within-few n ends h = rw (le-leb n (serviceCount ends) h)
+
 -- ---- names: those before j are good; w is the name of service j as the code has it
 
 pub record NamesLeft (name : ℕ → List ℕ) (n j : ℕ) : Type 0 where
@@ -56,14 +62,14 @@ module _ {name : ℕ → List ℕ} {n j : ℕ} (k : NamesLeft name n j) where
       sym (k .rest ∙ rw z)
 
   module _ (l : j < n) {w : List ℕ} (is : w ≡ name j) {g : Bool} (e : g ≡ isName w) where
-    pub names-bad : g ≡ false → Refused 3 j 0 ≡ namesFrom name 0 n
+    pub names-bad : g ≡ false → {r : Answer} → r ≡ bare 3 j → r ≡ namesFrom name 0 n
     unfolding namesFrom
-    names-bad f = sym (k .rest ∙ rw (one-left n j l, ← is, ← e, f))
+    names-bad f b = b ∙ sym (k .rest ∙ rw (one-left n j l, ← is, ← e, f))
 
     module _ {i : ℕ} (f : g ≡ true) (h : i ≡ find name j w) where
-      pub names-twice : ltb i j ≡ true → Refused 4 j 0 ≡ namesFrom name 0 n
+      pub names-twice : ltb i j ≡ true → {r : Answer} → r ≡ bare 4 j → r ≡ namesFrom name 0 n
       unfolding namesFrom
-      names-twice t = sym (k .rest ∙ rw (one-left n j l, ← is, ← e, f, ← h, t))
+      names-twice t b = b ∙ sym (k .rest ∙ rw (one-left n j l, ← is, ← e, f, ← h, t))
 
       pub names-good : ltb i j ≡ false → NamesLeft name n (j + 1)
       unfolding namesFrom
@@ -87,14 +93,14 @@ module _ {text : ℕ → List ℕ} {n t j : ℕ} (k : SizesLeft text n t j) wher
       sym (k .rest ∙ rw z)
 
   module _ (l : j < n) {w : List ℕ} (is : w ≡ text j) where
-    pub sizes-long : longestText < length w → Refused 5 j 0 ≡ sizesFrom text 0 0 n
+    pub sizes-long : longestText < length w → {r : Answer} → r ≡ bare 5 j → r ≡ sizesFrom text 0 0 n
     unfolding sizesFrom
-    sizes-long h = sym (k .rest ∙ rw (one-left n j l, ← is, lt-ltb longestText (length w) h))
+    sizes-long h b = b ∙ sym (k .rest ∙ rw (one-left n j l, ← is, lt-ltb longestText (length w) h))
 
-    pub sizes-many : longestTexts < t + length w → Refused 5 j 0 ≡ sizesFrom text 0 0 n
+    pub sizes-many : longestTexts < t + length w → {r : Answer} → r ≡ bare 5 j → r ≡ sizesFrom text 0 0 n
     unfolding sizesFrom
-    sizes-many h =
-        sym (k .rest ∙ rw (one-left n j l, ← is, lt-ltb longestTexts (t + length w) h, or-all (ltb longestText (length w))))
+    sizes-many h b =
+        b ∙ sym (k .rest ∙ rw (one-left n j l, ← is, lt-ltb longestTexts (t + length w) h, or-all (ltb longestText (length w))))
 
     pub sizes-fit : length w ≤ longestText → t + length w ≤ longestTexts → SizesLeft text n (t + length w) (j + 1)
     unfolding sizesFrom

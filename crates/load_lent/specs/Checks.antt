@@ -8,7 +8,8 @@ use Rattle.base.specs.Folds.{pick, first}
 use Rattle.load_text.specs.Strings.{same}
 use Rattle.load_word.specs.Words.{isName}
 use Rattle.load_lent.specs.declared.Answer.{Answer}
-use Rattle.load_lent.specs.declared.Answer.the-variants.{Accepted, Refused}
+use Rattle.load_lent.specs.declared.Answer.the-variants.{Accepted}
+use Rattle.load_lent.specs.Refusals.{bare}
 
 -- the service of a name among the first n, or n where it is none of theirs
 unfoldable pub find : (ℕ → List ℕ) → ℕ → List ℕ → ℕ
@@ -18,7 +19,7 @@ find name n w = first (λ i. same w (name i)) n
 unfoldable pub namesFrom : (ℕ → List ℕ) → ℕ → ℕ → Answer
 namesFrom name j zero = Accepted
 namesFrom name j (suc m) =
-    pick (isName (name j)) (pick (ltb (find name j (name j)) j) (Refused 4 j 0) (namesFrom name (j + 1) m)) (Refused 3 j 0)
+    pick (isName (name j)) (pick (ltb (find name j (name j)) j) (bare 4 j) (namesFrom name (j + 1) m)) (bare 3 j)
 
 -- 5: "a text passes 4,096 bytes, or the running total of texts passes 32,768"
 abbrev pub longestText : ℕ
@@ -31,5 +32,5 @@ longestTexts = 32768
 unfoldable pub sizesFrom : (ℕ → List ℕ) → ℕ → ℕ → ℕ → Answer
 sizesFrom text t j zero = Accepted
 sizesFrom text t j (suc m) =
-    pick (ltb longestText (length (text j)) || ltb longestTexts (t + length (text j))) (Refused 5 j 0)
+    pick (ltb longestText (length (text j)) || ltb longestTexts (t + length (text j))) (bare 5 j)
     (sizesFrom text (t + length (text j)) (j + 1) m)

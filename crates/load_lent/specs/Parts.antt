@@ -11,6 +11,10 @@ use Rattle.load_text.specs.Strings.{partOf}
 abbrev pub serviceCount : List ℕ → ℕ
 serviceCount ends = length ends / 2
 
+-- at most n of the services lent
+abbrev pub within : ℕ → List ℕ → ℕ
+within n ends = pick (leb n (serviceCount ends)) n (serviceCount ends)
+
 -- the positions from p on don't fall, and the last is m
 unfoldable pub risesTo : ℕ → ℕ → List ℕ → Bool
 risesTo m p [] = eqb p m

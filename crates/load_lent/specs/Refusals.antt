@@ -1,4 +1,4 @@
--- A fault met in the text of a service, as the load refuses it: with the service and the line.
+-- A refusal as the load answers it: bare, or a fault met in the text of a service, with its line where it has one.
 use Prim.Native.Nat.{ℕ}
 use lib.Dec.{eqb, leb}
 use mathlib.Core.Bool.{Bool, _&&_, _||_}
@@ -8,6 +8,10 @@ use Rattle.load_text.specs.Lines.{lineNumber}
 use Rattle.load_text.specs.declared.Fault.{Fault}
 use Rattle.load_lent.specs.declared.Answer.{Answer}
 use Rattle.load_lent.specs.declared.Answer.the-variants.{Refused}
+
+-- a refusal that has no line
+abbrev pub bare : ℕ → ℕ → Answer
+bare n s = Refused n s 0
 
 -- "line 0 outside 6 to 12 and 15"
 abbrev pub hasLine : ℕ → Bool

@@ -7,9 +7,9 @@ use load_word::is_name;
 ghost use mathlib.Core.Path.{_≡_};
 ghost use Prim.Native.Nat.{_≤_, _/_};
 ghost use lib.ListN.{getD};
-ghost use Rattle.load_lent.specs.Parts.{positioned, nameStart, nameAt, textAt};
+ghost use Rattle.load_lent.specs.Parts.{serviceCount, within, positioned, nameStart, nameAt, textAt};
 ghost use Rattle.load_lent.specs.Checks.{find, namesFrom, sizesFrom};
-ghost use Rattle.load_lent.specs.Refusals.{refusedIn};
+ghost use Rattle.load_lent.specs.Refusals.{bare, refusedIn};
 
 // What the checks of a set, and the load, answer: accepted, or paper 01's number with the service and the line.
 pub enum Answer {
@@ -19,6 +19,19 @@ pub enum Answer {
         service: usize,
         line: usize,
     },
+}
+
+impl Answer {
+    // A refusal that has no line.
+    pub fn bare(number: u8, service: usize) -> Answer
+        ensures { λ r. ⌜ r ≡ bare number service ⌝ }
+    {
+        Answer::Refused {
+            number,
+            service,
+            line: 0,
+        }
+    }
 }
 
 // The most bytes of one text.
@@ -93,7 +106,7 @@ pub fn text_at<'a>(lent: &'a [u8], ends: &[usize], j: usize) -> &'a [u8]
 }
 
 // The service of a name among the first n, or n where it is none of theirs.
-pub fn find_name(lent: &[u8], ends: &[usize], n: usize, name: &[u8]) -> usize
+fn find_among(lent: &[u8], ends: &[usize], n: usize, name: &[u8]) -> usize
     ensures { λ r. ⌜ r ≡ find (nameAt (now (lent .entry)) (now (ends .entry))) n (now (name .entry)) ⌝ }
 {
     let mut i: usize = 0;
@@ -107,41 +120,51 @@ pub fn find_name(lent: &[u8], ends: &[usize], n: usize, name: &[u8]) -> usize
     i
 }
 
-// Numbers 3 and 4, for each of the first n names in turn.
-pub fn check_names(lent: &[u8], ends: &[usize], n: usize) -> Answer
-    ensures { λ r. ⌜ r ≡ namesFrom (nameAt (now (lent .entry)) (now (ends .entry))) 0 n ⌝ }
+// At most n of the services lent.
+fn within(ends: &[usize], n: usize) -> usize
+    ensures { λ r. ⌜ r ≡ within n (now (ends .entry)) ⌝ }
 {
+    let count = ends.len() / 2;
+    if n <= count { n } else { count }
+}
+
+// The service of a name among the first n, or their number where it is none of theirs; past the services lent there is nothing to look at.
+pub fn find_name(lent: &[u8], ends: &[usize], n: usize, name: &[u8]) -> usize
+    ensures { λ r. ⌜ r ≡ find (nameAt (now (lent .entry)) (now (ends .entry))) (within n (now (ends .entry))) (now (name .entry)) ⌝ }
+{
+    let few = within(ends, n);
+    find_among(lent, ends, few, name)
+}
+
+// Numbers 3 and 4, for each name in turn.
+pub fn check_names(lent: &[u8], ends: &[usize]) -> Answer
+    ensures { λ r. ⌜ r ≡ namesFrom (nameAt (now (lent .entry)) (now (ends .entry))) 0 (serviceCount (now (ends .entry))) ⌝ }
+{
+    let n = ends.len() / 2;
     let mut j: usize = 0;
     while j < n {
         let next = j + 1;
         let name = name_at(lent, ends, j);
         let good = is_name(name);
-        let earlier = find_name(lent, ends, j, name);
+        let earlier = find_among(lent, ends, j, name);
         let twice = earlier < j;
         if good {
             if twice {
-                return Answer::Refused {
-                    number: 4,
-                    service: j,
-                    line: 0,
-                };
+                return Answer::bare(4, j);
             }
         } else {
-            return Answer::Refused {
-                number: 3,
-                service: j,
-                line: 0,
-            };
+            return Answer::bare(3, j);
         }
         j = next;
     }
     Answer::Accepted
 }
 
-// Number 5, over the first n texts.
-pub fn check_sizes(lent: &[u8], ends: &[usize], n: usize) -> Answer
-    ensures { λ r. ⌜ r ≡ sizesFrom (textAt (now (lent .entry)) (now (ends .entry))) 0 0 n ⌝ }
+// Number 5, over all texts.
+pub fn check_sizes(lent: &[u8], ends: &[usize]) -> Answer
+    ensures { λ r. ⌜ r ≡ sizesFrom (textAt (now (lent .entry)) (now (ends .entry))) 0 0 (serviceCount (now (ends .entry))) ⌝ }
 {
+    let n = ends.len() / 2;
     let mut total: usize = 0;
     let mut j: usize = 0;
     while j < n {
@@ -149,19 +172,11 @@ pub fn check_sizes(lent: &[u8], ends: &[usize], n: usize) -> Answer
         let text = text_at(lent, ends, j);
         let size = text.len();
         if MAX_TEXT < size {
-            return Answer::Refused {
-                number: 5,
-                service: j,
-                line: 0,
-            };
+            return Answer::bare(5, j);
         }
         let sum = total + size;
         if MAX_TEXTS < sum {
-            return Answer::Refused {
-                number: 5,
-                service: j,
-                line: 0,
-            };
+            return Answer::bare(5, j);
         }
         total = sum;
         j = next;
@@ -182,9 +197,5 @@ pub fn refused_in(text: &[u8], j: usize, f: Fault) -> Answer
             line: line_number(text, f.at),
         };
     }
-    Answer::Refused {
-        number,
-        service: j,
-        line: 0,
-    }
+    Answer::bare(number, j)
 }

@@ -1,9 +1,10 @@
 -- What the code finds of the rows of links is the lowest service on a cycle.
-use Prim.Native.Nat.{_+_, _<_, _≤_, ℕ}
+use Prim.Native.Nat.{_+_, _<_, _≤_, suc, zero, ℕ}
 use borrow.Author.Tests.{le-leb, lt-leb, lt-ltb}
 use lib.Dec.{leb, ltb}
 use mathlib.Core.Bool.{Bool, _&&_, false, true}
-use mathlib.Core.List.{List}
+use lib.ListN.{getD, set}
+use mathlib.Core.List.{List, [], _∷_}
 use mathlib.Core.Path.{_∙_, _≡_, ap, refl, sym}
 use native.Mathlib.Omega.{arith}
 use Rattle.base.specs.Folds.{first, pick}
@@ -11,14 +12,26 @@ use Rattle.base.specs.Links.{cyclic, reach}
 use Rattle.base.specs.Sets.{hasBit}
 use Rattle.base.proofs.Below.{first-as, some-false}
 use Rattle.base.proofs.Bits.{hasBit-none}
-use Rattle.base.proofs.Filled.{Filled}
+use Rattle.base.proofs.Filled.{Filled, Filling, filling-more}
 use Rattle.base.proofs.Loops.{Passed, passed-hit, passed-more}
 use Rattle.base.proofs.Sets.{first-empty}
 use Rattle.service.specs.Limits.{maxServices}
+use Rattle.service.specs.Settings.{linksOf}
 use Rattle.service.specs.declared.Settings.{Settings}
 use Rattle.load_links.specs.Links.{linksAt, lowestCyclic}
 use Rattle.links.specs.Rows.{mostRows, rowsAs}
 use Rattle.links.proofs.Rounds.{reach-as}
+
+-- past the places, where the code reads x, there is no service, and no link from it
+links-read : (vs : List Settings) (i : ℕ) (x : Settings) → linksOf x ≡ 0 → linksOf (getD vs i x) ≡ linksAt vs i
+links-read [] i x e = e
+links-read (v ∷ vs) zero x e = refl
+links-read (v ∷ vs) (suc i) x e = links-read vs i x e
+
+-- the links of one service more
+pub rows-more : (vs : List Settings) (x : Settings) {m n : ℕ} {rows : List ℕ} {l i : ℕ} → linksOf x ≡ 0
+    → Filling 0 (linksAt vs) m n rows i → i < n → l ≡ linksOf (getD vs i x) → Filling 0 (linksAt vs) m n (set rows i l) (i + 1)
+rows-more vs x {i = i} e h k q = filling-more h k (q ∙ links-read vs i x e)
 
 module _ (rows : List ℕ) (n : ℕ) (h : n ≤ maxServices) where
   -- m is what the code found that s reaches, q whether s is in it

@@ -2,10 +2,10 @@
 use Prim.Native.Nat.{_+_, _-_, _<_, _^_, _≤_, suc, zero, ℕ}
 use borrow.Author.Tests.{le-leb, le-ltb, lt-leb, lt-ltb}
 use lib.Dec.{leb, ltb}
-use lib.ListN.{List·getD-eq-default, getD, length, replicate, set}
+use lib.ListN.{getD, length, replicate, set}
 use mathlib.Core.Bool.{Bool, _&&_, false, true}
 use mathlib.Core.List.{List}
-use mathlib.Core.Path.{_∙_, _≡_, ap, refl, sym}
+use mathlib.Core.Path.{_∙_, _≡_, ap, ap₂, refl, sym}
 use native.Mathlib.Nat.{sub-zero}
 use native.Mathlib.Omega.{arith}
 use Rattle.base.specs.Folds.{pick}
@@ -18,42 +18,62 @@ use Rattle.load_text.specs.Lines.{fault}
 use Rattle.load_text.specs.declared.Fault.{Fault}
 use Rattle.load_text.specs.declared.Verdict.the-variants.{Bad as Bad, Good as Good}
 use Rattle.load_text.proofs.Strings.{getD-default}
-use Rattle.load_description.specs.Settings.{blank, dependencyAt, descriptionAt, maxDependencies, noDependency, wordAt}
-use Rattle.load_description.specs.declared.Dependency.{Dependency as Named}
+use Rattle.load_description.specs.Settings.{blank, dependencyAt, descriptionAt, maxDependencies, wordAt}
 use Rattle.load_description.specs.declared.Description.{Description}
 use Rattle.load_lent.specs.Checks.{find}
-use Rattle.load_lent.specs.declared.Answer.the-variants.{Accepted, Refused}
-use Rattle.load_links.specs.Links.{linksFrom, noLinks, tooMany, servicesFrom, servicesIn, servicesOn, settingsOf, withLink}
+use Rattle.load_lent.specs.Parts.{nameAt, serviceCount, within}
+use Rattle.load_lent.specs.Refusals.{bare}
+use Rattle.load_lent.specs.declared.Answer.{Answer}
+use Rattle.load_lent.specs.declared.Answer.the-variants.{Accepted}
+use Rattle.load_lent.proofs.Laws.{within-few}
+use Rattle.load_links.specs.Links.{linksFrom, linksIn, noLinks, tooMany, servicesFrom, servicesIn, servicesOn, settingsOf, withLink}
 use Rattle.load_links.specs.declared.Linked.{Linked}
 use Rattle.load_links.specs.declared.Links.{Links}
 use Rattle.load_links.specs.declared.Services.{Services}
 
--- past the places of a description there is no dependency
-pub dependency-past : (d : Description) (k : ℕ) → length (d .dependencies) ≡ maxDependencies → maxDependencies ≤ k → dependencyAt d k ≡ noDependency
-dependency-past d k e h = List·getD-eq-default (d .dependencies) noDependency (rw e h)
-
 pub one-link : (i : ℕ) (m : ℕ) → i < 64 → m ≡ single i (ltb i 64 && true) → m ≡ 2 ^ i
 one-link i m l e = e ∙ rw (lt-ltb i 64 l)
 
--- ---- the dependencies of a description; i is the service that the code found for its dependency k
+-- a word sought among all names; v is the word as the code has it
+pub word-found : (lent ends v w : List ℕ) {r : ℕ} → r ≡ find (nameAt lent ends) (within (serviceCount ends) ends) v → v ≡ w
+    → r ≡ find (nameAt lent ends) (serviceCount ends) w
+word-found lent ends v w e f = e ∙ ap₂ (find (nameAt lent ends)) (within-few (serviceCount ends) ends (omega arith)) f
 
-module _ (name : ℕ → List ℕ) (n : ℕ) (text : List ℕ) (d : Description) (l : Links) where
-  pub links-end : (k m : ℕ) → m ≡ 0 → linksFrom name n text d l k m ≡ record { answer = Good; links = l }
+-- ---- the dependencies of a description: those before k are links, as l; i is the service that the code found for dependency k
+
+pub record Linking (name : ℕ → List ℕ) (n : ℕ) (text : List ℕ) (d : Description) (l : Links) (k : ℕ) : Type 0 where
+  pub few : d .count ≤ maxDependencies
+  pub within : k ≤ d .count
+  pub rest : linksFrom name n text d noLinks 0 (d .count) ≡ linksFrom name n text d l k (d .count - k)
+
+module _ (name : ℕ → List ℕ) (n : ℕ) (text : List ℕ) (d : Description) where
+  pub linking-many : maxDependencies < d .count → record { answer = Bad (fault 12 0); links = noLinks } ≡ linksIn name n text d
+  unfolding linksIn
+  linking-many h = rw (lt-leb (d .count) maxDependencies h)
+
+  pub linking-none : d .count ≤ maxDependencies → Linking name n text d noLinks 0
+  linking-none h = record { few = h; within = omega arith; rest = rw (sub-zero (d .count)) }
+
+module _ {name : ℕ → List ℕ} {n : ℕ} {text : List ℕ} {d : Description} {l : Links} {k : ℕ} (h : Linking name n text d l k) where
+  all-links : {r : Linked} → linksFrom name n text d l k (d .count - k) ≡ r → r ≡ linksIn name n text d
+  unfolding linksIn
+  all-links e = sym (rw (le-leb (d .count) maxDependencies (h .few)) (h .rest ∙ e))
+
+  pub linking-all : d .count ≤ k → record { answer = Good; links = l } ≡ linksIn name n text d
   unfolding linksFrom
-  links-end k m e = rw e
+  linking-all e =
+      let z : d .count - k ≡ 0 = omega arith in
+      all-links (rw z)
 
-  module _ (k : ℕ) (h : k < d .count) {e : Named} (is : e ≡ dependencyAt d k) {i : ℕ} (f : i ≡ find name n (wordAt text (e .at))) where
-    found-as : i ≡ find name n (wordAt text (dependencyAt d k .at))
-    found-as = f ∙ ap (λ (a : Named). find name n (wordAt text (a .at))) is
-
-    pub links-found : i < n → {l′ : Links} → l′ ≡ withLink l (e .property) i
-        → linksFrom name n text d l k (d .count - k) ≡ linksFrom name n text d l′ (k + 1) (d .count - (k + 1))
+  module _ (u : k < d .count) {i : ℕ} (f : i ≡ find name n (wordAt text (dependencyAt d k .at))) where
+    pub linking-more : i < n → {l′ : Links} → l′ ≡ withLink l (dependencyAt d k .link) i → Linking name n text d l′ (k + 1)
     unfolding linksFrom
-    links-found s q = rw (one-left (d .count) k h, ← found-as, lt-ltb i n s, ← is, ← q)
+    linking-more s q =
+        record { few = h .few; within = omega arith; rest = h .rest ∙ rw (one-left (d .count) k u, ← f, lt-ltb i n s, ← q) }
 
-    pub links-absent : n ≤ i → linksFrom name n text d l k (d .count - k) ≡ record { answer = Bad (fault 15 (e .at)); links = l }
+    pub linking-absent : n ≤ i → record { answer = Bad (fault 15 (dependencyAt d k .at)); links = l } ≡ linksIn name n text d
     unfolding linksFrom
-    links-absent s = rw (one-left (d .count) k h, ← found-as, le-ltb i n s, ← is)
+    linking-absent s = all-links (rw (one-left (d .count) k u, ← f, le-ltb i n s))
 
 -- ---- the services of a set: those before j are made, as vs, put into the places none
 
@@ -76,7 +96,7 @@ module _ (name text : ℕ → List ℕ) (ds : List Description) (n : ℕ) where
 -- a service more: t is its text, r what the code made of its dependencies; past the places of the array the code reads x
 module _ {name text : ℕ → List ℕ} {ds : List Description} {n : ℕ} {none vs : List Settings} {j : ℕ} (x : Description)
     (k : Made name text ds n none vs j) (h : j < n)
-    {t : List ℕ} (ti : t ≡ text j) {r : Linked} (e : r ≡ linksFrom name n t (getD ds j x) noLinks 0 (getD ds j x .count)) where
+    {t : List ℕ} (ti : t ≡ text j) {r : Linked} (e : r ≡ linksIn name n t (getD ds j x)) where
   is : getD ds j x ≡ descriptionAt ds j
   is = getD-default ds j x blank (omega (arith, k .few))
 
@@ -101,7 +121,7 @@ module _ (name text : ℕ → List ℕ) (ds : List Description) (n : ℕ) where
     pub services-in : n ≤ maxServices → {r : Services} → r ≡ servicesFrom name text ds n (replicate maxServices v) 0 n → r ≡ servicesIn name text ds n
     services-in h e = e ∙ (ap (λ (a : Settings). all (replicate maxServices a)) is ∙ sym (few true (le-leb n maxServices h)))
 
-    pub services-many : maxServices < n → record { answer = Refused 1 0 0; services = replicate maxServices v } ≡ servicesIn name text ds n
-    services-many h =
-        ap (λ (a : Settings). record { answer = Refused 1 0 0; services = replicate maxServices a }) is
+    pub services-many : maxServices < n → {a : Answer} → a ≡ bare 1 0 → record { answer = a; services = replicate maxServices v } ≡ servicesIn name text ds n
+    services-many h e =
+        ap₂ (λ (a : Answer) (s : Settings). record { answer = a; services = replicate maxServices s }) e is
         ∙ sym (few false (lt-leb n maxServices h))

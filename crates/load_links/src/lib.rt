@@ -1,7 +1,8 @@
 // The dependencies of a set resolved to sets of services, the settings of each service, and the search for a cycle. Numbers 15 and 16.
 use base::has_bit;
 use base::single_of;
-use load_description::Dependency;
+use links::has_cycle;
+use links::reach_of;
 use load_description::Description;
 use load_description::MAX_DEPENDENCIES;
 use load_description::write_word_at;
@@ -9,19 +10,16 @@ use load_lent::Answer;
 use load_lent::find_name;
 use load_lent::refused_in;
 use load_lent::text_at;
-use links::has_cycle;
-use links::reach_of;
-use service::MAX_SERVICES;
-use service::Settings;
-use service::all_links;
-use service::signal_at;
 use load_text::Fault;
 use load_text::Verdict;
 use load_text::part;
 use load_value::WORD_ROOM;
-use load_word::kind_from;
+use load_word::Link;
+use service::MAX_SERVICES;
+use service::Settings;
+use service::all_links;
 ghost use mathlib.Core.Path.{_≡_};
-ghost use Prim.Native.Nat.{_≤_, _<_};
+ghost use Prim.Native.Nat.{_≤_, _<_, _/_};
 ghost use lib.Dec.{leb};
 ghost use Rattle.base.specs.Folds.{pick, first};
 ghost use Rattle.base.specs.Sets.{hasBit};
@@ -29,11 +27,11 @@ ghost use Rattle.base.specs.Links.{reach};
 ghost use Rattle.links.specs.Rows.{rowsAs};
 ghost use Rattle.base.proofs.Filled.{Filled};
 ghost use Rattle.service.specs.Limits.{maxServices};
-ghost use Rattle.load_description.specs.Settings.{wordAt, dependencyAt};
-ghost use Rattle.load_lent.specs.Parts.{nameAt, textAt};
+ghost use Rattle.load_description.specs.Settings.{wordAt};
+ghost use Rattle.load_lent.specs.Parts.{serviceCount, nameAt, textAt};
 ghost use Rattle.load_lent.specs.Checks.{find};
 ghost use Rattle.load_lent.specs.declared.Answer.the-variants.{Accepted};
-ghost use Rattle.load_links.specs.Links.{noLinks, withLink, linksFrom, settingsOf, servicesFrom, servicesOn, servicesIn, linksAt, lowestCyclic};
+ghost use Rattle.load_links.specs.Links.{withLink, linksIn, settingsOf, servicesFrom, servicesOn, servicesIn, linksAt, lowestCyclic};
 
 // The services that a service depends on, as sets: by depends-on, by depends-ms and by waits-for.
 pub struct Links {
@@ -53,72 +51,66 @@ pub struct Services {
     pub services: [Settings; MAX_SERVICES],
 }
 
-// The dependency at place k of a description, or none past the last.
-fn dependency_at(d: Description, k: usize) -> Dependency
-    ensures { λ r. ⌜ r ≡ dependencyAt d k ⌝ }
-{
-    if k < MAX_DEPENDENCIES {
-        return d.dependencies[k];
-    }
-    Dependency { property: 0, at: 0 }
-}
-
-// The service that the word at an offset of a text names, or n where it is none of the first n.
-fn find_word(lent: &[u8], ends: &[usize], n: usize, text: &[u8], at: usize) -> usize
-    ensures { λ r. ⌜ r ≡ find (nameAt (now (lent .entry)) (now (ends .entry))) n (wordAt (now (text .entry)) at) ⌝ }
+// The service that the word at an offset of a text names, or their number where it is none of them.
+fn find_word(lent: &[u8], ends: &[usize], text: &[u8], at: usize) -> usize
+    ensures { λ r. ⌜ r ≡ find (nameAt (now (lent .entry)) (now (ends .entry))) (serviceCount (now (ends .entry))) (wordAt (now (text .entry)) at) ⌝ }
 {
     let mut buffer = [0u8; WORD_ROOM];
     let m = write_word_at(text, at, &mut buffer);
+    let n = ends.len() / 2;
     find_name(lent, ends, n, part(&buffer, 0, m))
 }
 
 // A link to service i more, by a property.
-fn with_link(l: Links, property: usize, i: usize) -> Links
+fn with_link(l: Links, by: Link, i: usize) -> Links
     requires { ⌜ i < 64 ⌝ }
-    ensures { λ r. ⌜ r ≡ withLink l property i ⌝ }
+    ensures { λ r. ⌜ r ≡ withLink l by i ⌝ }
 {
     let link = single_of(i, true);
-    if property == 10 {
-        return Links {
+    match by {
+        Link::DependsOn => Links {
             hard: l.hard | link,
             milestone: l.milestone,
             soft: l.soft,
-        };
-    }
-    if property == 11 {
-        return Links {
+        },
+        Link::DependsMs => Links {
             hard: l.hard,
             milestone: l.milestone | link,
             soft: l.soft,
-        };
-    }
-    if property == 12 {
-        return Links {
+        },
+        Link::WaitsFor => Links {
             hard: l.hard,
             milestone: l.milestone,
             soft: l.soft | link,
-        };
+        },
     }
-    l
 }
 
-// The dependencies of one description, among the first n services.
-fn resolve(lent: &[u8], ends: &[usize], n: usize, text: &[u8], d: Description) -> Linked
-    requires { ⌜ n ≤ maxServices ⌝ }
-    ensures { λ r. ⌜ r ≡ linksFrom (nameAt (now (lent .entry)) (now (ends .entry))) n (now (text .entry)) d noLinks 0 (d .count) ⌝ }
+// The dependencies of one description. One that says that it has more than there are places is not looked through.
+fn resolve(lent: &[u8], ends: &[usize], text: &[u8], d: Description) -> Linked
+    requires { do ⌜ (← ⟦ends.len()⟧) / 2 ≤ maxServices ⌝ }
+    ensures { λ r. ⌜ r ≡ linksIn (nameAt (now (lent .entry)) (now (ends .entry))) (serviceCount (now (ends .entry))) (now (text .entry)) d ⌝ }
 {
+    let n = ends.len() / 2;
     let mut l = Links {
         hard: 0,
         milestone: 0,
         soft: 0,
     };
+    if MAX_DEPENDENCIES < d.count {
+        return Linked {
+            answer: Verdict::Bad(Fault { number: 12, at: 0 }),
+            links: l,
+        };
+    }
     let mut k: usize = 0;
     while k < d.count {
         let next = k + 1;
-        let e = dependency_at(d, k);
-        let i = find_word(lent, ends, n, text, e.at);
+        let e = d.dependencies[k];
+        let by = e.link;
+        let i = find_word(lent, ends, text, e.at);
         if i < n {
-            l = with_link(l, e.property, i);
+            l = with_link(l, by, i);
             k = next;
         } else {
             return Linked {
@@ -136,48 +128,35 @@ fn resolve(lent: &[u8], ends: &[usize], n: usize, text: &[u8], d: Description) -
     }
 }
 
-// The settings of a service, by property number.
+// The settings of a service: those of its description, with what it depends on.
 fn settings_of(d: Description, l: Links) -> Settings
     ensures { λ r. ⌜ r ≡ settingsOf d l ⌝ }
 {
-    let kind = kind_from(d.values[0]);
-    let signal = signal_at(d.values[13]);
-    let stop = d.values[2];
-    let restart = d.values[3];
-    Settings {
-        kind,
-        restart: restart == 1,
-        has_stop: !(stop == 0),
-        signal,
-        delay: d.values[5],
-        interval: d.values[6],
-        limit: d.values[7],
-        start_timeout: d.values[8],
-        stop_timeout: d.values[9],
-        hard: l.hard,
-        milestone: l.milestone,
-        soft: l.soft,
-    }
+    let mut v = d.settings;
+    v.hard = l.hard;
+    v.milestone = l.milestone;
+    v.soft = l.soft;
+    v
 }
 
-// The settings of each of the first n services, put into the places lent for them.
+// The settings of each service, put into the places lent for them.
 fn make(
     lent: &[u8],
     ends: &[usize],
-    n: usize,
     ds: [Description; MAX_SERVICES],
     none: [Settings; MAX_SERVICES],
 ) -> Services
-    requires { ⌜ n ≤ maxServices ⌝ }
-    ensures { λ r. ⌜ r ≡ servicesFrom (nameAt (now (lent .entry)) (now (ends .entry))) (textAt (now (lent .entry)) (now (ends .entry))) ds n none 0 n ⌝ }
+    requires { do ⌜ (← ⟦ends.len()⟧) / 2 ≤ maxServices ⌝ }
+    ensures { λ r. ⌜ r ≡ servicesFrom (nameAt (now (lent .entry)) (now (ends .entry))) (textAt (now (lent .entry)) (now (ends .entry))) ds (serviceCount (now (ends .entry))) none 0 (serviceCount (now (ends .entry))) ⌝ }
 {
+    let n = ends.len() / 2;
     let mut services = none;
     let mut j: usize = 0;
     while j < n {
         let next = j + 1;
         let d = ds[j];
         let text = text_at(lent, ends, j);
-        let r = resolve(lent, ends, n, text, d);
+        let r = resolve(lent, ends, text, d);
         let answer = r.answer;
         let Verdict::Good = answer else {
             return refuse(text, j, answer, services);
@@ -209,28 +188,17 @@ fn refuse(text: &[u8], j: usize, v: Verdict, services: [Settings; MAX_SERVICES])
     }
 }
 
-// The settings of a set of n services, or the first dependency on a service not in it. More than there are places are refused (1).
-pub fn make_services(
-    lent: &[u8],
-    ends: &[usize],
-    n: usize,
-    ds: [Description; MAX_SERVICES],
-) -> Services
-    ensures { λ r. ⌜ r ≡ servicesIn (nameAt (now (lent .entry)) (now (ends .entry))) (textAt (now (lent .entry)) (now (ends .entry))) ds n ⌝ }
+// The settings of a set, or the first dependency on a service not in it. More services than there are places are refused (1).
+pub fn make_services(lent: &[u8], ends: &[usize], ds: [Description; MAX_SERVICES]) -> Services
+    ensures { λ r. ⌜ r ≡ servicesIn (nameAt (now (lent .entry)) (now (ends .entry))) (textAt (now (lent .entry)) (now (ends .entry))) ds (serviceCount (now (ends .entry))) ⌝ }
 {
     let none = Settings::default();
     let services = [none; MAX_SERVICES];
-    if n <= MAX_SERVICES {
-        return make(lent, ends, n, ds, services);
+    if ends.len() / 2 <= MAX_SERVICES {
+        return make(lent, ends, ds, services);
     }
-    Services {
-        answer: Answer::Refused {
-            number: 1,
-            service: 0,
-            line: 0,
-        },
-        services,
-    }
+    let answer = Answer::bare(1, 0);
+    Services { answer, services }
 }
 
 // What each of the first n services depends on.

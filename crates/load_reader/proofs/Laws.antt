@@ -14,9 +14,10 @@ use Rattle.load_text.specs.declared.Verdict.the-variants.{Good as AllGood}
 use Rattle.load_text.specs.declared.Opening.{Opening}
 use Rattle.load_text.specs.declared.Opening.the-variants.{Nothing as Silent, Named, Bad as BadOpening}
 use Rattle.load_text.proofs.Lines.{line-part, lines-next, end-fits, Inside, opening-inside}
+use Rattle.load_word.specs.declared.Command.the-variants.{Start, Stop}
 use Rattle.load_description.specs.declared.Description.{Description}
 use Rattle.load_description.specs.declared.Effect.{Effect}
-use Rattle.load_description.specs.declared.Effect.the-variants.{Nothing, Setting, Dependency}
+use Rattle.load_description.specs.declared.Effect.the-variants.{Nothing, Kind, Settings, Command, Dependency}
 use Rattle.load_description.specs.declared.Line.{Line}
 use Rattle.load_description.specs.declared.Line.the-variants.{Good, Bad}
 use Rattle.load_description.specs.declared.Read.{Read}
@@ -58,8 +59,11 @@ silent-read s d i l (BadOpening f) h = no-ft h
 -- a line adds at most one dependency
 affected-count : (d : Description) (e : Effect) → affected d e .count ≤ d .count + 1
 affected-count d Nothing = omega arith
-affected-count d (Setting p v) = omega arith
-affected-count d (Dependency p at) = omega arith
+affected-count d (Kind k) = omega arith
+affected-count d (Settings v) = omega arith
+affected-count d (Command Start at) = omega arith
+affected-count d (Command Stop at) = omega arith
+affected-count d (Dependency l at) = omega arith
 
 -- what the loop over the lines keeps: few dependencies, and that the lines from i on make of the settings so far what all lines make
 pub record Reached (s : List ℕ) (d : Description) (i : ℕ) : Type 0 where

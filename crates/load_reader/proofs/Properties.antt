@@ -1,10 +1,9 @@
 -- The laws of a line by how it begins and by its property, with premises as the code finds them: where the value is, and what it was read as.
 use native.Mathlib.Omega.{arith}
 use mathlib.Core.Path.{_≡_, sym, ap, _∙_, subst}
-use mathlib.Core.Bool.{false}
+use mathlib.Core.Bool.{Bool, false}
 use mathlib.Core.List.{List}
 use Prim.Native.Nat.{ℕ, _+_, _≤_, _<_}
-use lib.Dec.{eqb}
 use lib.ListN.{length, drop, length-drop}
 use Rattle.load_text.specs.Bytes.{isWhite}
 use Rattle.load_text.specs.Strings.{partOf}
@@ -20,7 +19,8 @@ use Rattle.load_value.specs.declared.Scan.{Scan}
 use Rattle.load_value.specs.declared.Scan.the-variants.{Tokens, Bad as BadValue}
 use Rattle.load_value.specs.declared.Sizes.{Sizes}
 use Rattle.load_value.proofs.Scans.{ScanInside, scan-inside}
-use Rattle.load_word.specs.Properties.{propertyOf, unknownProperty}
+use Rattle.load_word.specs.declared.Property.{Property}
+use Rattle.load_word.specs.Properties.{propertyOf, isUnknown}
 use Rattle.load_description.specs.declared.Description.{Description}
 use Rattle.load_description.specs.declared.Line.{Line}
 use Rattle.load_description.specs.declared.Line.the-variants.{Bad}
@@ -39,7 +39,7 @@ module _ (n : ℕ) {o : Opening} where
       let i : f .at ≤ n = subst (Inside n) e h in
       omega arith
 
-pub property-told : (text : List ℕ) (d : Description) (from : ℕ) (l : List ℕ) {o : Opening} {s : Places} {w : List ℕ} {p : ℕ} {r : Line} → o ≡ Named s
+pub property-told : (text : List ℕ) (d : Description) (from : ℕ) (l : List ℕ) {o : Opening} {s : Places} {w : List ℕ} {p : Property} {r : Line} → o ≡ Named s
     → w ≡ partOf l (s .from) (s .end) → p ≡ propertyOf w → r ≡ propertyRead text d from l s p → r ≡ openingRead text d from l o
 property-told text d from l e q u v = v ∙ rw (e, u, q)
 
@@ -55,13 +55,13 @@ module _ (from : ℕ) (l : List ℕ) (v : ℕ) (n : from + length l < 9223372036
       omega (arith, i, ap length p, length-drop v l)
 
 -- the answer by what the value was read as
-module _ (text : List ℕ) (d : Description) (from : ℕ) (l : List ℕ) (s : Places) (p : ℕ) {value : List ℕ} {z : Scan}
-    (known : eqb p unknownProperty ≡ false) (q : value ≡ drop (s .value) l) (e : z ≡ scanOf value) where
+module _ (text : List ℕ) (d : Description) (from : ℕ) (l : List ℕ) (s : Places) (p : Property) {b : Bool} {value : List ℕ} {z : Scan}
+    (asked : b ≡ isUnknown p) (known : b ≡ false) (q : value ≡ drop (s .value) l) (e : z ≡ scanOf value) where
   pub tokens-told : {w : ℕ} {t : Sizes} {r : Line} → z ≡ Tokens t → w ≡ whiteEnd l (s .value)
       → r ≡ tokensRead text d p (from + s .value) (from + w) t value → r ≡ propertyRead text d from l s p
   unfolding propertyRead
-  tokens-told g u h = h ∙ rw (known, ← u, ← q, sym e ∙ g)
+  tokens-told g u h = h ∙ rw (sym asked ∙ known, ← u, ← q, sym e ∙ g)
 
   pub fault-told : {f : Fault} → z ≡ BadValue f → Bad (fault (f .number) (from + s .value + f .at)) ≡ propertyRead text d from l s p
   unfolding propertyRead
-  fault-told g = rw (known, ← q, sym e ∙ g)
+  fault-told g = rw (sym asked ∙ known, ← q, sym e ∙ g)

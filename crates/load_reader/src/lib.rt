@@ -4,7 +4,6 @@ use load_description::Description;
 use load_description::Effect;
 use load_description::Line;
 use load_description::MAX_DEPENDENCIES;
-use load_description::PROPERTIES;
 use load_description::Read;
 use load_description::complete;
 use load_description::read_tokens;
@@ -20,62 +19,111 @@ use load_text::tail;
 use load_text::white_end;
 use load_value::Scan;
 use load_value::scan_value;
-use load_word::property;
+use load_word::Command;
+use load_word::Link;
+use load_word::Property;
+use load_word::find_property;
+use load_word::with_kind;
+use service::Settings;
 ghost use mathlib.Core.Path.{_≡_};
 ghost use Prim.Native.Nat.{_+_, _<_};
 ghost use lib.ListN.{length};
 ghost use Rattle.load_text.specs.Lines.{linesOf};
 ghost use Rattle.load_text.proofs.Lines.{Inside};
-ghost use Rattle.load_description.specs.Settings.{blank, withSetting, withDependency, affected};
+ghost use Rattle.load_word.specs.Properties.{isUnknown};
+ghost use Rattle.load_description.specs.Settings.{blank, withSettings, withCommand, withDependency, affected};
 ghost use Rattle.load_description.specs.Lines.{isSilent, propertyRead, openingRead};
 ghost use Rattle.load_description.specs.Texts.{readAs, readOn, linesRead, textRead};
 
-// A setting more, in the place of an earlier one.
-fn with_setting(d: Description, property: usize, value: u64) -> Description
-    ensures { λ r. ⌜ r ≡ withSetting d property value ⌝ }
+// Other settings. No store puts a struct into a field: this is the one place here that names every field.
+fn with_settings(d: Description, typed: bool, v: Settings) -> Description
+    ensures { λ r. ⌜ r ≡ withSettings d typed v ⌝ }
+{
+    let kept = d.kept;
+    let dependencies = d.dependencies;
+    Description {
+        settings: v,
+        typed,
+        kept,
+        count: d.count,
+        dependencies,
+    }
+}
+
+// A command, in the place of an earlier one.
+fn with_command(d: Description, c: Command, at: usize) -> Description
+    ensures { λ r. ⌜ r ≡ withCommand d c at ⌝ }
 {
     let mut next = d;
-    if property < PROPERTIES {
-        next.values[property] = value;
+    match c {
+        Command::Start => {
+            next.kept.command = at;
+        }
+        Command::Stop => {
+            next.settings.has_stop = true;
+            next.kept.stop = at;
+        }
     }
     next
 }
 
 // A dependency more.
-fn with_dependency(d: Description, property: usize, at: usize) -> Description
+fn with_dependency(d: Description, link: Link, at: usize) -> Description
     requires { ⌜ d .count < 18446744073709551615 ⌝ }
-    ensures { λ r. ⌜ r ≡ withDependency d property at ⌝ }
+    ensures { λ r. ⌜ r ≡ withDependency d link at ⌝ }
 {
     let mut next = d;
     let k = d.count;
     let after = k + 1;
     if k < MAX_DEPENDENCIES {
-        next.dependencies[k] = Dependency { property, at };
+        next.dependencies[k] = Dependency { link, at };
     }
     next.count = after;
     next
 }
 
-// What a line does to the settings.
+// What a line does to the description.
 fn affect(d: Description, e: Effect) -> Description
     requires { ⌜ d .count < 18446744073709551615 ⌝ }
     ensures { λ r. ⌜ r ≡ affected d e ⌝ }
 {
+    let old = d.settings;
     match e {
         Effect::Nothing => d,
-        Effect::Setting(property, value) => with_setting(d, property, value),
-        Effect::Dependency(property, at) => with_dependency(d, property, at),
+        Effect::Kind(k) => with_settings(d, true, with_kind(k, old)),
+        Effect::Settings(v) => with_settings(d, d.typed, v),
+        Effect::Command(c, at) => with_command(d, c, at),
+        Effect::Dependency(l, at) => with_dependency(d, l, at),
     }
 }
 
-// A line whose property has a number; the line begins at the offset `from`.
-fn read_property(text: &[u8], d: Description, from: usize, line: &[u8], s: Places, p: usize) -> Line
+fn is_unknown(p: Property) -> bool
+    ensures { λ r. ⌜ r ≡ isUnknown p ⌝ }
+{
+    match p {
+        Property::Kind => false,
+        Property::Setting(_) => false,
+        Property::Command(_) => false,
+        Property::Link(_) => false,
+        Property::Unknown => true,
+    }
+}
+
+// A line by its property; the line begins at the offset `from`.
+fn read_property(
+    text: &[u8],
+    d: Description,
+    from: usize,
+    line: &[u8],
+    s: Places,
+    p: Property,
+) -> Line
     requires { ⌜ (from + length (now line) < 9223372036854775808) × Inside (length (now line)) (Opening.Named s) ⌝ }
     ensures { λ r. ⌜ r ≡ propertyRead (now (text .entry)) d from (now (line .entry)) s p ⌝ }
 {
     let start = from + s.from;
     let v = s.value;
-    let unknown = p == PROPERTIES;
+    let unknown = is_unknown(p);
     if unknown {
         return Line::Bad(Fault {
             number: 10,
@@ -104,7 +152,7 @@ fn read_line(text: &[u8], d: Description, from: usize, line: &[u8], o: Opening) 
         Opening::Named(s) => {
             let a = s.from;
             let e = s.end;
-            let p = property(part(line, a, e));
+            let p = find_property(part(line, a, e));
             read_property(text, d, from, line, s, p)
         }
         Opening::Bad(f) => Line::Bad(Fault {

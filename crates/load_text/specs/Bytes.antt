@@ -26,6 +26,10 @@ abbrev pub isNameByte : ℕ → Bool
 isNameByte b =
     (leb 97 b && leb b 122) || (leb 65 b && leb b 90) || (leb 48 b && leb b 57) || eqb b 45 || eqb b 95 || eqb b 46
 
+-- 3: "1 to 32"
+abbrev pub longestName : ℕ
+longestName = 32
+
 abbrev pub isDigit : ℕ → Bool
 isDigit b = leb 48 b && leb b 57
 

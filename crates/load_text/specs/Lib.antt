@@ -2,3 +2,4 @@
 pub mod Strings
 pub mod Bytes
 pub mod Lines
+pub mod Examples

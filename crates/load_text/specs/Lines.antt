@@ -3,9 +3,8 @@ use Prim.Native.Nat.{ℕ, _+_}
 use mathlib.Core.Bool.{Bool, _||_}
 use mathlib.Core.List.{List, [], _∷_}
 use lib.Dec.{eqb, leb}
-use lib.ListN.{length, getD, drop}
+use lib.ListN.{length, getD, take, drop}
 use Rattle.base.specs.Folds.{pick}
-use Rattle.load_text.specs.Strings.{partOf}
 use Rattle.load_text.specs.Bytes.{isWhite, isNewline, isBad, isPropertyByte, isSign, run}
 use Rattle.load_text.specs.declared.Fault.{Fault}
 use Rattle.load_text.specs.declared.Verdict.{Verdict}
@@ -40,9 +39,9 @@ unfoldable pub lineFrom : ℕ → List ℕ → ℕ
 lineFrom k [] = k
 lineFrom k (b ∷ bs) = lineFrom (pick (isNewline b) (k + 1) k) bs
 
--- the line of the byte at an offset
+-- the line of the byte at an offset: the line after the bytes before it, which from the text's end on are all
 unfoldable pub lineNumber : List ℕ → ℕ → ℕ
-lineNumber text at = lineFrom 1 (partOf text 0 at)
+lineNumber text at = lineFrom 1 (take at text)
 
 -- "A line of white space only, or whose first other byte is `#`, says nothing"; a is the length of the leading white space
 abbrev pub saysNothing : List ℕ → ℕ → Bool

@@ -1,10 +1,13 @@
 // The bytes and lines of a description: classes of bytes, the lines, and where a line's name, sign and value are.
 ghost use mathlib.Core.Path.{_≡_};
 ghost use Prim.Native.Nat.{_+_};
-ghost use lib.ListN.{length, getD, drop};
+ghost use lib.ListN.{length, getD, take, drop};
 ghost use Rattle.load_text.specs.Strings.{same, partOf};
 ghost use Rattle.load_text.specs.Bytes.{isWhite, isBad, isPropertyByte, isNameByte, isDigit, isSign};
 ghost use Rattle.load_text.specs.Lines.{lineOf, badFrom, lineFrom, lineNumber, nameEnd, whiteEnd, opening};
+
+// The longest name of a service, and so the longest word.
+pub const LONGEST_NAME: usize = 32;
 
 // A fault met inside a text: paper 01's number, and the offset of the byte that decided it.
 pub struct Fault {
@@ -35,42 +38,42 @@ pub enum Opening {
 pub fn is_white(b: u8) -> bool
     ensures { λ r. ⌜ r ≡ isWhite b ⌝ }
 {
-    (b == 32) | (b == 9) | ((11 <= b) & (b <= 13))
+    (b == b' ') | (b == b'\t') | ((b'\x0b' <= b) & (b <= b'\r'))
 }
 
 fn is_bad(b: u8) -> bool
     ensures { λ r. ⌜ r ≡ isBad b ⌝ }
 {
-    (b < 9) | ((13 < b) & (b < 32)) | (b == 127)
+    (b < b'\t') | ((b'\r' < b) & (b < b' ')) | (b == b'\x7f')
 }
 
 fn is_property_byte(b: u8) -> bool
     ensures { λ r. ⌜ r ≡ isPropertyByte b ⌝ }
 {
-    ((97 <= b) & (b <= 122)) | (b == 45) | (b == 46)
+    ((b'a' <= b) & (b <= b'z')) | (b == b'-') | (b == b'.')
 }
 
 pub fn is_name_byte(b: u8) -> bool
     ensures { λ r. ⌜ r ≡ isNameByte b ⌝ }
 {
-    ((97 <= b) & (b <= 122))
-        | ((65 <= b) & (b <= 90))
-        | ((48 <= b) & (b <= 57))
-        | (b == 45)
-        | (b == 95)
-        | (b == 46)
+    ((b'a' <= b) & (b <= b'z'))
+        | ((b'A' <= b) & (b <= b'Z'))
+        | ((b'0' <= b) & (b <= b'9'))
+        | (b == b'-')
+        | (b == b'_')
+        | (b == b'.')
 }
 
 pub fn is_digit(b: u8) -> bool
     ensures { λ r. ⌜ r ≡ isDigit b ⌝ }
 {
-    (48 <= b) & (b <= 57)
+    (b'0' <= b) & (b <= b'9')
 }
 
 fn is_sign(b: u8) -> bool
     ensures { λ r. ⌜ r ≡ isSign b ⌝ }
 {
-    (b == 61) | (b == 58)
+    (b == b'=') | (b == b':')
 }
 
 pub fn same_bytes(a: &[u8], b: &[u8]) -> bool
@@ -110,6 +113,13 @@ pub fn tail(s: &[u8], from: usize) -> &[u8]
     if from <= s.len() { &s[from..] } else { &s[..0] }
 }
 
+// The bytes before a place, or all where it is past the end.
+fn head(s: &[u8], to: usize) -> &[u8]
+    ensures { λ r. ⌜ now r ≡ take to (now (s .entry)) ⌝ }
+{
+    if to <= s.len() { &s[0..to] } else { s }
+}
+
 // The byte at i, or 0 past the end.
 pub fn byte_at(s: &[u8], i: usize) -> u8
     ensures { λ r. ⌜ r ≡ getD (now (s .entry)) i 0 ⌝ }
@@ -124,7 +134,7 @@ pub fn line_end(s: &[u8], i: usize) -> usize
     let mut e = i;
     while e < s.len() {
         let next = e + 1;
-        let ends = s[e] == 10;
+        let ends = s[e] == b'\n';
         if ends {
             return e;
         }
@@ -167,28 +177,29 @@ fn name_end(s: &[u8], i: usize) -> usize
     e
 }
 
-// The first bad byte. Paper 01 asks for the nested walk over lines and bytes, left from inside by a label: "The first bad byte of the first
-// bad line decides".
+// The first bad byte. Paper 01 asks for a nested walk over lines and bytes, left from inside by a label that carries number and place: "The
+// first bad byte of the first bad line decides".
 pub fn first_bad(s: &[u8]) -> Verdict
     ensures { λ r. ⌜ r ≡ badFrom 0 (now (s .entry)) ⌝ }
 {
     let mut i: usize = 0;
-    let mut found = Verdict::Good;
-    'lines: while i < s.len() {
+    let found = 'lines: loop {
+        if s.len() <= i {
+            break 'lines Verdict::Good;
+        }
         while i < s.len() {
             let b = s[i];
             let bad = is_bad(b);
-            let ends = b == 10;
+            let ends = b == b'\n';
             if bad {
-                found = Verdict::Bad(Fault { number: 6, at: i });
-                break 'lines;
+                break 'lines Verdict::Bad(Fault { number: 6, at: i });
             }
             i += 1;
             if ends {
                 break;
             }
         }
-    }
+    };
     found
 }
 
@@ -201,7 +212,7 @@ fn line_after(s: &[u8]) -> usize
     while i < s.len() {
         let next = i + 1;
         let more = line + 1;
-        let ends = s[i] == 10;
+        let ends = s[i] == b'\n';
         if ends {
             line = more;
         }
@@ -210,11 +221,11 @@ fn line_after(s: &[u8]) -> usize
     line
 }
 
-// The line of the byte at an offset.
+// The line of the byte at an offset; from the text's end on, the line that the text ends in.
 pub fn line_number(s: &[u8], at: usize) -> usize
     ensures { λ r. ⌜ r ≡ lineNumber (now (s .entry)) at ⌝ }
 {
-    line_after(part(s, 0, at))
+    line_after(head(s, at))
 }
 
 // How a line begins.
@@ -227,7 +238,7 @@ pub fn opening_of(line: &[u8]) -> Opening
     let value = sign + 1;
     let first = byte_at(line, from);
     let signed = is_sign(byte_at(line, sign));
-    let nothing = (line.len() <= from) | (first == 35);
+    let nothing = (line.len() <= from) | (first == b'#');
     let nameless = from == end;
     if nothing {
         return Opening::Nothing;

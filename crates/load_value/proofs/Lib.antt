@@ -2,3 +2,5 @@
 pub mod Scans
 pub mod Writing
 pub mod Loops
+pub mod Counts
+pub mod Spaced

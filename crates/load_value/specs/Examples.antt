@@ -1,4 +1,4 @@
--- The worked examples of values in paper 01, and readings beside them: one table, one statement.
+-- Readings of values beside paper 01's worked examples, which crates/guarantee states: one table, one statement.
 use Prim.Native.Nat.{ℕ}
 use Prim.Native.String.{String}
 use mathlib.Core.Path.{_≡_, refl}
@@ -30,11 +30,6 @@ refused n i = Bad (fault n i)
 
 abbrev pub examples : List Example
 examples =
-    -- "P values"
-    record { value = "a  b # c"; scan = tokens 2 4 1; tokens = "a/b/" } ∷
-    record { value = "a#b"; scan = refused 7 1; tokens = "a" } ∷
-    record { value = "\"a  b\"c"; scan = tokens 1 6 5; tokens = "a  bc/" } ∷
-    record { value = "a\\ b"; scan = tokens 1 4 3; tokens = "a b/" } ∷
     -- the first fault from the left, and 8 only at the end
     record { value = "\"a\\"; scan = refused 9 2; tokens = "a/" } ∷
     record { value = "a#\\"; scan = refused 7 1; tokens = "a" } ∷

@@ -4,6 +4,7 @@ use mathlib.Core.Bool.{Bool, _&&_}
 use mathlib.Core.List.{List, [], _∷_, map}
 use lib.Dec.{eqb, leb, ltb}
 use Rattle.base.specs.Folds.{pick}
+use Rattle.load_text.specs.Bytes.{longestName}
 use Rattle.load_text.specs.Lines.{fault}
 use Rattle.load_text.specs.declared.Verdict.{Verdict}
 use Rattle.load_text.specs.declared.Verdict.the-variants.{Good, Bad}
@@ -100,7 +101,7 @@ isCommand z = ltb 0 (z .first)
 
 -- the longest value that a property which is no command can have: that of a name
 abbrev pub longestWord : ℕ
-longestWord = 32
+longestWord = longestName
 
 -- the room that a word is given
 abbrev pub wordRoom : ℕ

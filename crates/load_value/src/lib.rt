@@ -1,5 +1,6 @@
 // The value of a line: what quotes, backslashes, white space and comments make of its bytes.
 use load_text::Fault;
+use load_text::LONGEST_NAME;
 use load_text::is_white;
 ghost use mathlib.Core.Path.{_≡_};
 ghost use Prim.Native.Nat.{_-_, _<_, _≤_};
@@ -8,8 +9,8 @@ ghost use Rattle.load_value.specs.Stores.{Put, Puts};
 ghost use Rattle.base.specs.Folds.{pick};
 ghost use Rattle.load_value.specs.Values.{kept, close, counted, ended, scanned, scanOf, written, wordOf};
 
-// The longest value that a property which is no command can have.
-pub const LONGEST_WORD: usize = 32;
+// The longest value that a property which is no command can have: that of a name.
+pub const LONGEST_WORD: usize = LONGEST_NAME;
 
 // The room that a word is given: a byte more, so that one that is too long is told from a name.
 pub const WORD_ROOM: usize = LONGEST_WORD + 1;
@@ -59,7 +60,7 @@ fn bare_step(m: Mode, b: u8) -> Step
     ensures { λ r. ⌜ r ≡ bareStep m b ⌝ }
 {
     let white = is_white(b);
-    let hash = b == 35;
+    let hash = b == b'#';
     if white {
         let between = Mode::BETWEEN;
         if m.token {
@@ -106,8 +107,8 @@ fn quote_step(m: Mode) -> Step
 fn step_at(m: Mode, b: u8) -> Step
     ensures { λ r. ⌜ r ≡ stepOf m b ⌝ }
 {
-    let slash = b == 92;
-    let quote = b == 34;
+    let slash = b == b'\\';
+    let quote = b == b'"';
     if m.comment {
         return Step::Skip(m);
     }

@@ -1,4 +1,5 @@
 -- The laws, each file after those that it cites.
 pub mod Decimals
 pub mod Words
-pub mod Settings
+pub mod Stores
+pub mod Spaces

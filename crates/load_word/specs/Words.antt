@@ -7,7 +7,7 @@ use lib.Dec.{leb, ltb}
 use lib.ListN.{length}
 use Rattle.base.specs.Folds.{pick}
 use Rattle.load_text.specs.Strings.{bytes, same, indexFrom}
-use Rattle.load_text.specs.Bytes.{isNameByte}
+use Rattle.load_text.specs.Bytes.{isNameByte, longestName}
 use Rattle.service.specs.Numbers.{kindNumber, lastSignal, signalAt}
 use Rattle.service.specs.declared.Kind.the-variants.{Internal, Process, Scripted}
 use Rattle.service.specs.declared.Signal.{Signal}
@@ -62,8 +62,5 @@ nameBytes [] = true
 nameBytes (b ∷ bs) = isNameByte b && nameBytes bs
 
 -- 3: "1 to 32 of a-z A-Z 0-9 `-` `_` `.`"
-abbrev pub longestName : ℕ
-longestName = 32
-
 unfoldable pub isName : List ℕ → Bool
 isName l = ltb 0 (length l) && leb (length l) longestName && nameBytes l

@@ -1,24 +1,25 @@
 // The words of a description: names of properties, the values of those that are no commands, names of services.
+use load_text::LONGEST_NAME;
+use load_text::is_digit;
+use load_text::is_name_byte;
+use load_text::same_bytes;
 use service::Kind;
 use service::LAST_SIGNAL;
 use service::LONGEST_TIME;
 use service::MAX_COUNT;
 use service::Settings;
+use service::Signal;
 use service::kind_number;
 use service::signal_at;
-use load_text::is_digit;
-use load_text::is_name_byte;
-use load_text::same_bytes;
 ghost use mathlib.Core.Path.{_≡_};
 ghost use mathlib.Core.Bool.{true};
 ghost use Prim.Native.Nat.{_-_, _^_, _≤_};
 ghost use Rattle.load_text.specs.Bytes.{isDigit};
+ghost use Rattle.load_text.specs.Strings.{indexFrom};
+ghost use Rattle.service.specs.Numbers.{kindNumber, signalNumber, withNumber};
 ghost use Rattle.load_word.specs.Words.{flagOf, noOf, kindOf, signalOf, nameBytes, isName};
 ghost use Rattle.load_word.specs.Decimals.{Sane, blank, digitOf, readOf, decimalFrom, timeOf, countOf};
-ghost use Rattle.load_word.specs.Properties.{propertyOf, settingOf};
-
-// The longest name of a service.
-pub const LONGEST_NAME: usize = 32;
+ghost use Rattle.load_word.specs.Properties.{propertyNames, propertyOf, settingOf};
 
 // How many properties there are.
 const PROPERTIES: usize = 14;
@@ -86,9 +87,9 @@ pub enum Reading {
     Off,
 }
 
-// The property of a name.
-pub fn find_property(name: &[u8]) -> Property
-    ensures { λ r. ⌜ r ≡ propertyOf (now (name .entry)) ⌝ }
+// The place of a name among those of the properties; their count where it is none of them.
+fn find_place(name: &[u8]) -> usize
+    ensures { λ r. ⌜ r ≡ indexFrom (now (name .entry)) 0 propertyNames ⌝ }
 {
     let names: [&[u8]; PROPERTIES] = [
         b"type",
@@ -106,6 +107,22 @@ pub fn find_property(name: &[u8]) -> Property
         b"waits-for",
         b"term-signal",
     ];
+    let mut k: usize = 0;
+    while k < PROPERTIES {
+        let n = names[k];
+        let found = same_bytes(name, n);
+        if found {
+            return k;
+        }
+        k += 1;
+    }
+    k
+}
+
+// The property of a name. The properties stand in the order of their names.
+pub fn find_property(name: &[u8]) -> Property
+    ensures { λ r. ⌜ r ≡ propertyOf (now (name .entry)) ⌝ }
+{
     let properties: [Property; PROPERTIES] = [
         Property::Kind,
         Property::Command(Command::Start),
@@ -122,14 +139,9 @@ pub fn find_property(name: &[u8]) -> Property
         Property::Link(Link::WaitsFor),
         Property::Setting(Setting::TermSignal),
     ];
-    let mut k: usize = 0;
-    while k < PROPERTIES {
-        let n = names[k];
-        let found = same_bytes(name, n);
-        if found {
-            return properties[k];
-        }
-        k += 1;
+    let k = find_place(name);
+    if k < PROPERTIES {
+        return properties[k];
     }
     Property::Unknown
 }
@@ -208,7 +220,7 @@ fn digit(k: Decimal, b: u8) -> Reading
     ensures { λ r. ⌜ r ≡ digitOf k b ⌝ }
     ensures sane { λ r. ⌜ Sane r ⌝ }
 {
-    let value = k.value * 10 + ((b as u64) - 48);
+    let value = k.value * 10 + (b - b'0') as u64;
     if k.point {
         let more = k.part < 4;
         if more {
@@ -242,7 +254,7 @@ fn advance(k: Decimal, b: u8) -> Reading
     if is_digit(b) {
         return digit(k, b);
     }
-    let dot = (b == 46) & !k.point & (0 < k.whole);
+    let dot = (b == b'.') & !k.point & (0 < k.whole);
     if dot {
         return Reading::On(Decimal {
             whole: k.whole,
@@ -346,6 +358,42 @@ pub fn is_name(s: &[u8]) -> bool
     (0 < s.len()) & (s.len() <= LONGEST_NAME) & name_bytes(s)
 }
 
+// The settings with another type and signal. No store puts an enum into a field: this is the one place here that names every setting.
+fn remade(kind: Kind, signal: Signal, v: Settings) -> Settings
+    ensures { λ r. ⌜ r ≡ withNumber 0 (kindNumber kind) (withNumber 7 (signalNumber signal) v) ⌝ }
+{
+    Settings {
+        kind,
+        restart: v.restart,
+        has_stop: v.has_stop,
+        signal,
+        delay: v.delay,
+        interval: v.interval,
+        limit: v.limit,
+        start_timeout: v.start_timeout,
+        stop_timeout: v.stop_timeout,
+        hard: v.hard,
+        milestone: v.milestone,
+        soft: v.soft,
+    }
+}
+
+// The settings with a type.
+pub fn with_kind(kind: Kind, v: Settings) -> Settings
+    ensures { λ r. ⌜ r ≡ withNumber 0 (kindNumber kind) v ⌝ }
+{
+    let signal = v.signal;
+    remade(kind, signal, v)
+}
+
+// The settings with a signal, by its number.
+fn with_signal(n: u64, v: Settings) -> Settings
+    ensures { λ r. ⌜ r ≡ withNumber 7 n v ⌝ }
+{
+    let kind = v.kind;
+    remade(kind, signal_at(n), v)
+}
+
 // The settings with a word as the value of one of them.
 pub fn read_setting(s: Setting, word: &[u8], v: Settings) -> Change
     ensures { λ r. ⌜ r ≡ settingOf s (now (word .entry)) v ⌝ }
@@ -397,7 +445,7 @@ pub fn read_setting(s: Setting, word: &[u8], v: Settings) -> Change
             let Worth::Value(n) = read_signal(word) else {
                 return Change::Refused;
             };
-            next.signal = signal_at(n);
+            next = with_signal(n, v);
         }
     }
     Change::To(next)

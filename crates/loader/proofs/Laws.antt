@@ -3,9 +3,8 @@ use Prim.Native.Nat.{_+_, _-_, _<_, _≤_, suc, zero, zero-le, ℕ}
 use borrow.Author.Tests.{ltb-false}
 use lib.Dec.{ltb}
 use lib.ListN.{length, replicate, set}
-use lib.Seq.{sets}
 use mathlib.Core.Bool.{Bool, _||_, false, true}
-use mathlib.Core.List.{List, _++_}
+use mathlib.Core.List.{List}
 use mathlib.Core.Path.{_∙_, _≡_, ap, refl, subst, sym}
 use native.Mathlib.Nat.{eq-or-lt-of-le}
 use native.Mathlib.Omega.{arith}
@@ -25,8 +24,6 @@ use Rattle.loader.specs.declared.Descriptions.{Descriptions}
 use Rattle.load_lent.specs.Checks.{longestText, longestTexts, sizesFrom}
 use Rattle.load_lent.specs.declared.Answer.{Answer}
 use Rattle.load_lent.specs.declared.Answer.the-variants.{Accepted, Refused}
-use Rattle.load_tokens.specs.Tokens.{commandBytes}
-use Rattle.load_tokens.proofs.Laws.{command-short, sets-append}
 
 -- ---- 5: no text is long
 
@@ -80,17 +77,3 @@ module _ (text : ℕ → List ℕ) (n : ℕ) (ds : List Description) where
 
 pub text-short : {text : ℕ → List ℕ} {n j : ℕ} {t : List ℕ} → Short text n → j < n → t ≡ text j → length t ≤ longestText
 text-short {j = j} h l e = rw e (h .each j l)
-
-pub command-bound : (t : List ℕ) (at : ℕ) {r : ℕ} → r ≡ length (commandBytes t at) → length t ≤ longestText → r ≤ longestText + 1
-command-bound t at e h =
-    let a : length (commandBytes t at) ≤ suc (length t) = command-short t at in
-    omega (arith, a, e)
-
--- one command after the other
-pub second-fits : (t : List ℕ) (at o : ℕ) {r : ℕ} → r ≡ length (commandBytes t at) → length t ≤ longestText → o < 4294967296
-    → o + r < 18446744073709551616
-second-fits t at o e h l = omega (arith, command-bound t at e h)
-
-pub two-written : (b : List ℕ) (o : ℕ) (xs ys : List ℕ) {r : ℕ} {b′ b″ : List ℕ} → b′ ≡ sets b o xs → r ≡ length xs → b″ ≡ sets b′ (o + r) ys
-    → b″ ≡ sets b o (xs ++ ys)
-two-written b o xs ys e q f = f ∙ rw (e, q) (sym (sets-append b o xs ys))

@@ -12,18 +12,23 @@ use Rattle.service.specs.Limits.{maxServices}
 use Rattle.service.specs.Settings.{defaultSettings, noServices}
 use Rattle.service.specs.declared.Settings.{Settings}
 use Rattle.load_description.specs.declared.Description.{Description}
-use Rattle.loader.specs.Load.{Outcome, acyclic, load, loadSet, passed, refusedWith, stored, tested, withDescriptions, withServices}
+use Rattle.loader.specs.Load.{Outcome, acyclic, load, loadSet, loadTexts, passed, refusedWith, stored, tested, withDescriptions, withServices}
 use Rattle.loader.specs.Texts.{descriptionsFrom, noDescriptions}
 use Rattle.loader.specs.declared.Descriptions.{Descriptions}
 use Rattle.loader.specs.declared.Loaded.{Loaded}
 use Rattle.load_lent.specs.Checks.{namesFrom, sizesFrom}
+use Rattle.load_lent.specs.Refusals.{bare}
 use Rattle.load_lent.specs.Parts.{nameAt, positioned, serviceCount, textAt}
 use Rattle.load_lent.specs.declared.Answer.{Answer}
 use Rattle.load_lent.specs.declared.Answer.the-variants.{Accepted, Refused}
 use Rattle.load_links.specs.Links.{lowestCyclic, tooMany, servicesFrom, servicesIn}
 use Rattle.load_links.specs.declared.Services.{Services}
-use Rattle.load_tokens.specs.Tokens.{bytesFrom, commandsFrom, noCommands}
-use Rattle.load_tokens.specs.declared.Commands.{Commands}
+use Rattle.loader.specs.Tokens.{bytesFrom, commandsFrom, noCommands}
+use Rattle.loader.specs.declared.Placed.{Placed}
+
+-- what is beside a refusal
+abbrev refused : Answer → Loaded
+refused a = record { answer = a; table = noServices; commands = noCommands }
 
 -- ---- a pass, and a test
 
@@ -31,7 +36,7 @@ module _ (buffer : List ℕ) where
   pub pass-on : {a : Answer} {o x : Outcome} → a ≡ Accepted → o ≡ x → o ≡ passed buffer a x
   pass-on {a} {o} {x} e q = q ∙ sym (ap (λ (b : Answer). passed buffer b x) e)
 
-  pub pass-not : {a : Answer} {k s l : ℕ} (x : Outcome) {r : Loaded} → a ≡ Refused k s l → r ≡ record { answer = a; table = noServices; commands = noCommands }
+  pub pass-not : {a : Answer} {k s l : ℕ} (x : Outcome) {r : Loaded} → a ≡ Refused k s l → r ≡ refused a
       → record { loaded = r; buffer = buffer } ≡ passed buffer a x
   pass-not x e q =
       ap (λ (y : Loaded). record { loaded = y; buffer = buffer }) q
@@ -40,28 +45,32 @@ module _ (buffer : List ℕ) where
   pub test-on : {t : Bool} (k s : ℕ) {o x : Outcome} → t ≡ true → o ≡ x → o ≡ tested buffer t k s x
   test-on k s {o} {x} e q = q ∙ sym (ap (λ (b : Bool). tested buffer b k s x) e)
 
-  pub test-not : {t : Bool} (k s : ℕ) (x : Outcome) {r : Loaded} → t ≡ false → r ≡ record { answer = Refused k s 0; table = noServices; commands = noCommands }
+  pub test-not : {t : Bool} (k s : ℕ) (x : Outcome) {a : Answer} {r : Loaded} → t ≡ false → a ≡ bare k s → r ≡ refused a
       → record { loaded = r; buffer = buffer } ≡ tested buffer t k s x
-  test-not k s x e q =
-      ap (λ (y : Loaded). record { loaded = y; buffer = buffer }) q ∙ sym (ap (λ (b : Bool). tested buffer b k s x) e)
+  test-not k s x e g q =
+      ap (λ (y : Loaded). record { loaded = y; buffer = buffer }) (q ∙ ap refused g) ∙ sym (ap (λ (b : Bool). tested buffer b k s x) e)
 
 -- ---- the last: 25
 
 module _ (text : ℕ → List ℕ) (buffer : List ℕ) (n : ℕ) (ds : List Description) (vs : List Settings) where
-  module _ {room : ℕ} (e : room ≡ length (bytesFrom text ds 0 n)) where
-    pub stored-fits : room ≤ length buffer → {b : List ℕ} {cs : List Commands} → b ≡ sets buffer 0 (bytesFrom text ds 0 n)
-        → cs ≡ commandsFrom text ds 0 noCommands 0 n
-        → record { loaded = record { answer = Accepted; table = record { count = n; services = vs }; commands = cs }; buffer = b } ≡ stored text buffer n ds vs
-    unfolding stored
-    stored-fits h {b} {cs} q p =
-        test-on buffer 25 0 (le-leb (length (bytesFrom text ds 0 n)) (length buffer) (rw (← e) h))
-        (ap (λ (l : List ℕ). record { loaded = record { answer = Accepted; table = record { count = n; services = vs }; commands = cs }; buffer = l }) q
-        ∙ ap (λ (l : List Commands). record { loaded = record { answer = Accepted; table = record { count = n; services = vs }; commands = l }; buffer = sets buffer 0 (bytesFrom text ds 0 n) }) p)
+  module _ {p : Placed} (e : p ≡ record { commands = commandsFrom text ds 0 noCommands 0 n; room = length (bytesFrom text ds 0 n) }) where
+    pub placed-places : p .commands ≡ commandsFrom text ds 0 noCommands 0 n
+    placed-places = ap (λ (y : Placed). y .commands) e
 
-    pub stored-small : length buffer < room → {r : Loaded} → r ≡ record { answer = Refused 25 0 0; table = noServices; commands = noCommands }
-        → record { loaded = r; buffer = buffer } ≡ stored text buffer n ds vs
+    pub stored-fits : p .room ≤ length buffer → {b : List ℕ} → b ≡ sets buffer 0 (bytesFrom text ds 0 n)
+        → record { loaded = record { answer = Accepted; table = record { count = n; services = vs }; commands = p .commands }; buffer = b }
+        ≡ stored text buffer n ds vs
     unfolding stored
-    stored-small h q = test-not buffer 25 0 _ (lt-leb (length (bytesFrom text ds 0 n)) (length buffer) (rw (← e) h)) q
+    stored-fits h {b} q =
+        let fits : length (bytesFrom text ds 0 n) ≤ length buffer = rw (← ap (λ (y : Placed). y .room) e) h in
+        test-on buffer 25 0 (le-leb (length (bytesFrom text ds 0 n)) (length buffer) fits)
+        (rw (q, e))
+
+    pub stored-small : length buffer < p .room → {a : Answer} → a ≡ bare 25 0 → {r : Loaded} → r ≡ refused a → record { loaded = r; buffer = buffer } ≡ stored text buffer n ds vs
+    unfolding stored
+    stored-small h g q =
+        let small : length buffer < length (bytesFrom text ds 0 n) = rw (← ap (λ (y : Placed). y .room) e) h in
+        test-not buffer 25 0 _ (lt-leb (length (bytesFrom text ds 0 n)) (length buffer) small) g q
 
   -- ---- 16
 
@@ -73,12 +82,11 @@ module _ (text : ℕ → List ℕ) (buffer : List ℕ) (n : ℕ) (ds : List Desc
     unfolding acyclic
     acyclic-on l q = test-on buffer 16 (lowestCyclic vs n) (le-leb n (lowestCyclic vs n) (rw (← low-as) l)) q
 
-    pub acyclic-not : low < n → {r : Loaded} → r ≡ record { answer = Refused 16 low 0; table = noServices; commands = noCommands }
+    pub acyclic-not : low < n → {a : Answer} → a ≡ bare 16 low → {r : Loaded} → r ≡ refused a
         → record { loaded = r; buffer = buffer } ≡ acyclic text buffer n ds vs
     unfolding acyclic
-    acyclic-not l q =
-        test-not buffer 16 (lowestCyclic vs n) _ (lt-leb n (lowestCyclic vs n) (rw (← low-as) l))
-        (q ∙ ap (λ (k : ℕ). record { answer = Refused 16 k 0; table = noServices; commands = noCommands }) low-as)
+    acyclic-not l g q =
+        test-not buffer 16 (lowestCyclic vs n) _ (lt-leb n (lowestCyclic vs n) (rw (← low-as) l)) (g ∙ ap (λ (k : ℕ). bare 16 k) low-as) q
 
 -- ---- the dependencies, and the texts
 
@@ -97,7 +105,7 @@ module _ (name text : ℕ → List ℕ) (buffer : List ℕ) (n : ℕ) where
     pub linked-on : m .answer ≡ Accepted → {o : Outcome} → o ≡ acyclic text buffer n ds (m .services) → o ≡ made
     linked-on a q = pass-on buffer a q ∙ made-way
 
-    pub linked-not : {k s l : ℕ} → m .answer ≡ Refused k s l → {r : Loaded} → r ≡ record { answer = m .answer; table = noServices; commands = noCommands }
+    pub linked-not : {k s l : ℕ} → m .answer ≡ Refused k s l → {r : Loaded} → r ≡ refused (m .answer)
         → record { loaded = r; buffer = buffer } ≡ made
     linked-not a q = pass-not buffer _ a q ∙ made-way
 
@@ -113,48 +121,46 @@ module _ (name text : ℕ → List ℕ) (buffer : List ℕ) (n : ℕ) where
         → o ≡ told
     read-on a q = pass-on buffer a q ∙ told-way
 
-    pub read-not : {k s l : ℕ} → d .answer ≡ Refused k s l → {r : Loaded} → r ≡ record { answer = d .answer; table = noServices; commands = noCommands }
+    pub read-not : {k s l : ℕ} → d .answer ≡ Refused k s l → {r : Loaded} → r ≡ refused (d .answer)
         → record { loaded = r; buffer = buffer } ≡ told
     read-not a q = pass-not buffer _ a q ∙ told-way
 
-  -- ---- the names and the sizes
+  -- ---- the sizes, then the names
 
   abbrev texts : Outcome
   texts = withDescriptions name text buffer n (descriptionsFrom text noDescriptions 0 n)
 
-  abbrev sizes : Outcome
-  sizes = passed buffer (sizesFrom text 0 0 n) texts
+  module _ {a : Answer} (e : a ≡ sizesFrom text 0 0 n) where
+    pub sizes-not : {k s l : ℕ} → a ≡ Refused k s l → {r : Loaded} → r ≡ refused a → record { loaded = r; buffer = buffer } ≡ loadTexts name text n buffer
+    unfolding loadTexts
+    sizes-not g q = pass-not buffer texts g q ∙ ap (λ (b : Answer). passed buffer b texts) e
+
+    pub sizes-on : a ≡ Accepted → {o : Outcome} → o ≡ texts → o ≡ loadTexts name text n buffer
+    unfolding loadTexts
+    sizes-on g q = pass-on buffer (sym e ∙ g) q
 
   module _ {a : Answer} (e : a ≡ namesFrom name 0 n) where
-    pub names-not : {k s l : ℕ} → a ≡ Refused k s l → {r : Loaded} → r ≡ record { answer = a; table = noServices; commands = noCommands }
-        → record { loaded = r; buffer = buffer } ≡ loadSet name text n buffer
+    pub names-not : {k s l : ℕ} → a ≡ Refused k s l → {r : Loaded} → r ≡ refused a → record { loaded = r; buffer = buffer } ≡ loadSet name text n buffer
     unfolding loadSet
-    names-not g q = pass-not buffer sizes g q ∙ ap (λ (b : Answer). passed buffer b sizes) e
+    names-not g q = pass-not buffer (loadTexts name text n buffer) g q ∙ ap (λ (b : Answer). passed buffer b (loadTexts name text n buffer)) e
 
-    module _ (g : a ≡ Accepted) {z : Answer} (f : z ≡ sizesFrom text 0 0 n) where
-      pub sizes-not : {k s l : ℕ} → z ≡ Refused k s l → {r : Loaded} → r ≡ record { answer = z; table = noServices; commands = noCommands }
-          → record { loaded = r; buffer = buffer } ≡ loadSet name text n buffer
-      unfolding loadSet
-      sizes-not k q = pass-on buffer (sym e ∙ g) (pass-not buffer texts k q ∙ ap (λ (b : Answer). passed buffer b texts) f)
-
-      pub set-on : z ≡ Accepted → {o : Outcome} → o ≡ withDescriptions name text buffer n (descriptionsFrom text noDescriptions 0 n)
-          → o ≡ loadSet name text n buffer
-      unfolding loadSet
-      set-on k q = pass-on buffer (sym e ∙ g) (pass-on buffer (sym f ∙ k) q)
+    pub names-on : a ≡ Accepted → {o : Outcome} → o ≡ loadTexts name text n buffer → o ≡ loadSet name text n buffer
+    unfolding loadSet
+    names-on g q = pass-on buffer (sym e ∙ g) q
 
 -- ---- 1 and 2
 
 module _ (lent ends buffer : List ℕ) where
-  pub load-many : maxServices < serviceCount ends → {r : Loaded} → r ≡ record { answer = Refused 1 0 0; table = noServices; commands = noCommands }
+  pub load-many : maxServices < serviceCount ends → {a : Answer} → a ≡ bare 1 0 → {r : Loaded} → r ≡ refused a
       → record { loaded = r; buffer = buffer } ≡ load lent ends buffer
   unfolding load
-  load-many h q = test-not buffer 1 0 _ (lt-leb (serviceCount ends) maxServices h) q
+  load-many h g q = test-not buffer 1 0 _ (lt-leb (serviceCount ends) maxServices h) g q
 
   module _ (h : serviceCount ends ≤ maxServices) {p : Bool} (e : p ≡ positioned lent ends) where
-    pub load-placed : p ≡ false → {r : Loaded} → r ≡ record { answer = Refused 2 0 0; table = noServices; commands = noCommands }
+    pub load-placed : p ≡ false → {a : Answer} → a ≡ bare 2 0 → {r : Loaded} → r ≡ refused a
         → record { loaded = r; buffer = buffer } ≡ load lent ends buffer
     unfolding load
-    load-placed g q = test-on buffer 1 0 (le-leb (serviceCount ends) maxServices h) (test-not buffer 2 0 _ (sym e ∙ g) q)
+    load-placed g i q = test-on buffer 1 0 (le-leb (serviceCount ends) maxServices h) (test-not buffer 2 0 _ (sym e ∙ g) i q)
 
     pub load-on : p ≡ true → {o : Outcome} → o ≡ loadSet (nameAt lent ends) (textAt lent ends) (serviceCount ends) buffer → o ≡ load lent ends buffer
     unfolding load
@@ -195,7 +201,7 @@ module _ (P : Outcome → Type 0) (buffer : List ℕ) (refused : (k s l : ℕ) �
   pub every-load : (lent ends : List ℕ)
       → (serviceCount ends ≤ maxServices → leb (serviceCount ends) (lowestCyclic (setServices lent ends) (serviceCount ends)) ≡ true → P (setLoaded lent ends buffer))
       → P (load lent ends buffer)
-  unfolding load loadSet acyclic stored
+  unfolding load loadSet loadTexts acyclic stored
   every-load lent ends whole =
       after-test (leb n maxServices) 1 0 _ λ few.
       after-test (positioned lent ends) 2 0 _ λ _.

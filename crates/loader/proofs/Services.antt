@@ -1,117 +1,140 @@
--- What the loops over the services keep: the room that those so far take, and their commands placed and written. t is the text of service j.
-use Prim.Native.Nat.{_+_, _-_, _*_, _<_, _≤_, ℕ}
-use lib.ListN.{getD, length, length-append, set}
-use lib.Seq.{sets, length-sets}
-use mathlib.Core.List.{List, _++_, append-assoc}
+-- What the loops over the services keep: of those so far the places are found, or all is written there. t is the text of service j.
+use Prim.Native.Nat.{_+_, _-_, _*_, _<_, _≤_, suc, zero, ℕ}
+use lib.ListN.{getD, length, length-append, length-set, set}
+use lib.Seq.{getD-set-other, getD-set-same, length-sets, sets}
+use mathlib.Core.List.{List, _++_}
 use mathlib.Core.Path.{_∙_, _≡_, ap, refl, sym}
 use native.Mathlib.Nat.{sub-zero}
 use native.Mathlib.Omega.{arith}
 use Rattle.base.proofs.Counting.{one-left}
 use Rattle.service.specs.Limits.{maxServices}
 use Rattle.load_text.proofs.Strings.{getD-default}
-use Rattle.load_description.specs.Settings.{blank, descriptionAt, valueOf}
+use Rattle.load_description.specs.Settings.{blank, descriptionAt}
 use Rattle.load_description.specs.declared.Description.{Description}
 use Rattle.loader.specs.Short.{mostRoom}
-use Rattle.load_tokens.specs.Tokens.{bytesFrom, commandBytes, commandsAt, commandsFrom, roomOf}
-use Rattle.load_tokens.specs.declared.Commands.{Commands}
-use Rattle.load_tokens.proofs.Laws.{sets-append}
-
--- the places so far are few
-pub record Few (n o j : ℕ) : Type 0 where
-  pub within : j ≤ n
-  pub bound : o ≤ j * mostRoom
-
-module _ {n o j : ℕ} (k : Few n o j) (h : j < n) (m : n ≤ maxServices) where
-  pub place-fits : o < 4294967296
-  place-fits = omega arith
-
-  pub next-fits : {r : ℕ} → r ≤ mostRoom → o + r < 18446744073709551616
-  next-fits b = omega arith
-
-few-none : (n : ℕ) → Few n 0 0
-few-none n = record { within = omega arith; bound = omega arith }
-
-few-more : {n o j r : ℕ} → Few n o j → j < n → r ≤ mostRoom → Few n (o + r) (j + 1)
-few-more k h b = record { within = omega arith; bound = omega (arith, k .bound) }
-
-pub record Counted (text : ℕ → List ℕ) (ds : List Description) (n o j : ℕ) : Type 0 where
-  pub few : Few n o j
-  pub rest : length (bytesFrom text ds 0 n) ≡ o + length (bytesFrom text ds j (n - j))
-
--- from the commands cs and the bytes b that stood there first
-pub record Stored (text : ℕ → List ℕ) (ds : List Description) (n : ℕ) (cs : List Commands) (b : List ℕ) (cs′ : List Commands) (b′ : List ℕ)
-    (o j : ℕ) : Type 0 where
-  pub few : Few n o j
-  pub long : length b′ ≡ length b
-  pub places : commandsFrom text ds 0 cs 0 n ≡ commandsFrom text ds o cs′ j (n - j)
-  pub bytes : sets b 0 (bytesFrom text ds 0 n) ≡ sets b′ o (bytesFrom text ds j (n - j))
+use Rattle.loader.specs.Tokens.{bytesFrom, commandsFrom, keptOf, noCommands, placesOf, roomOf}
+use Rattle.loader.specs.declared.Placed.{Placed}
+use Rattle.loader.specs.declared.tokens.Commands.{Commands}
+use Rattle.loader.specs.declared.tokens.Place.{Place}
+use Rattle.loader.proofs.Kept.{sets-append}
 
 module _ (text : ℕ → List ℕ) (ds : List Description) (n : ℕ) where
-  pub counted-none : Counted text ds n 0 0
-  counted-none = record { few = few-none n; rest = rw (sub-zero n) (omega arith) }
+  -- cs′ holds the places of the first j services, which end at o; it held cs first
+  pub record Placing (cs cs′ : List Commands) (o j : ℕ) : Type 0 where
+    pub within : j ≤ n
+    pub bound : o ≤ j * mostRoom
+    pub places : commandsFrom text ds 0 cs 0 n ≡ commandsFrom text ds o cs′ j (n - j)
+    pub rest : length (bytesFrom text ds 0 n) ≡ o + length (bytesFrom text ds j (n - j))
 
-  pub stored-none : (cs : List Commands) (b : List ℕ) → Stored text ds n cs b cs b 0 0
-  stored-none cs b = record { few = few-none n; long = refl; places = rw (sub-zero n); bytes = rw (sub-zero n) }
+  -- b′ has what is kept of the first j services, up to `place`; it was b first. cs are the places of all, found from `before` on
+  pub record Writing (cs : List Commands) (b b′ : List ℕ) (j : ℕ) : Type 0 where
+    pub within : j ≤ n
+    pub long : length b′ ≡ length b
+    pub place : ℕ
+    pub before : List Commands
+    pub whole : length before ≡ maxServices
+    pub places : cs ≡ commandsFrom text ds place before j (n - j)
+    pub bytes : sets b 0 (bytesFrom text ds 0 n) ≡ sets b′ place (bytesFrom text ds j (n - j))
 
-  pub counted-end : {o j : ℕ} → Counted text ds n o j → n ≤ j → o ≡ length (bytesFrom text ds 0 n)
-  unfolding bytesFrom
-  counted-end {o} {j} k h =
+module _ (text : ℕ → List ℕ) (ds : List Description) (n : ℕ) where
+  pub placing-none : (cs : List Commands) → Placing text ds n cs cs 0 0
+  placing-none cs = record { within = omega arith; bound = omega arith; places = rw (sub-zero n); rest = rw (sub-zero n) (omega arith) }
+
+  pub place-fits : {cs cs′ : List Commands} {o j : ℕ} → Placing text ds n cs cs′ o j → j < n → n ≤ maxServices → o < 4294967296
+  place-fits k h m = omega (arith, k .bound)
+
+  pub placing-end : {cs cs′ : List Commands} {o j : ℕ} → Placing text ds n cs cs′ o j → n ≤ j
+      → _≡_ {A = Placed} (record { commands = cs′; room = o })
+      (record { commands = commandsFrom text ds 0 cs 0 n; room = length (bytesFrom text ds 0 n) })
+  unfolding bytesFrom commandsFrom
+  placing-end {cs} {cs′} {o} {j} k h =
       let z : n - j ≡ 0 = omega arith in
-      sym (k .rest ∙ rw z (omega arith))
+      let p : commandsFrom text ds 0 cs 0 n ≡ cs′ = k .places ∙ rw z in
+      let r : length (bytesFrom text ds 0 n) ≡ o = k .rest ∙ rw z (omega arith) in
+      rw (p, r)
 
-  module _ {cs cs′ : List Commands} {b b′ : List ℕ} {o j : ℕ} (k : Stored text ds n cs b cs′ b′ o j) (h : n ≤ j) where
-    pub placed-end : cs′ ≡ commandsFrom text ds 0 cs 0 n
-    unfolding commandsFrom
-    placed-end =
-        let z : n - j ≡ 0 = omega arith in
-        sym (k .places ∙ rw z)
+  pub writing-none : {cs : List Commands} (b : List ℕ) → cs ≡ commandsFrom text ds 0 noCommands 0 n → Writing text ds n cs b b 0
+  writing-none b e = record {
+    within = omega arith;
+    long = refl;
+    place = 0;
+    before = noCommands;
+    whole = refl;
+    places = e ∙ rw (sub-zero n);
+    bytes = rw (sub-zero n);
+  }
 
-    pub written-end : b′ ≡ sets b 0 (bytesFrom text ds 0 n)
-    unfolding bytesFrom
-    written-end =
-        let z : n - j ≡ 0 = omega arith in
-        sym (k .bytes ∙ rw z)
+  pub writing-end : {cs : List Commands} {b b′ : List ℕ} {j : ℕ} → Writing text ds n cs b b′ j → n ≤ j → b′ ≡ sets b 0 (bytesFrom text ds 0 n)
+  unfolding bytesFrom
+  writing-end {j = j} k h =
+      let z : n - j ≡ 0 = omega arith in
+      sym (k .bytes ∙ rw z)
+
+  -- the later services leave the places of those before them
+  commands-before : (m o j i : ℕ) (cs : List Commands) (x : Commands) → i < j → getD (commandsFrom text ds o cs j m) i x ≡ getD cs i x
+  unfolding commandsFrom
+  commands-before zero o j i cs x h = refl
+  commands-before (suc m) o j i cs x h =
+      commands-before m (o + roomOf (text j) (descriptionAt ds j)) (j + 1) i (set cs j (placesOf o (text j) (descriptionAt ds j))) x (omega arith)
+      ∙ getD-set-other cs j i (placesOf o (text j) (descriptionAt ds j)) x (λ (e : i ≡ j). omega arith)
 
 -- a service more; past the places of the array the code has x, where the definition has the blank description
-module _ (text : ℕ → List ℕ) (ds : List Description) (n j : ℕ) (x : Description) {t : List ℕ} {r : ℕ} (h : j < n) (m : n ≤ maxServices)
-    (l : length ds ≡ maxServices) (ti : t ≡ text j) (p : r ≡ roomOf t (getD ds j x)) (small : r ≤ mostRoom) where
+module _ (text : ℕ → List ℕ) (ds : List Description) (n j : ℕ) (x : Description) {t : List ℕ} (h : j < n) (m : n ≤ maxServices)
+    (l : length ds ≡ maxServices) (ti : t ≡ text j) where
   abbrev d : Description
   d = getD ds j x
-
-  abbrev two : List ℕ
-  two = commandBytes t (valueOf d 1) ++ commandBytes t (valueOf d 2)
-
-  abbrev after : List ℕ
-  after = bytesFrom text ds (j + 1) (n - (j + 1))
 
   is : d ≡ descriptionAt ds j
   is = getD-default ds j x blank (omega arith)
 
-  bytes-step : bytesFrom text ds j (n - j) ≡ two ++ after
+  abbrev after : List ℕ
+  after = bytesFrom text ds (j + 1) (n - (j + 1))
+
+  bytes-step : bytesFrom text ds j (n - j) ≡ keptOf t d ++ after
   unfolding bytesFrom
-  bytes-step = rw (one-left n j h, ← ti, ← is) (sym (append-assoc (commandBytes t (valueOf d 1)) (commandBytes t (valueOf d 2)) after))
+  bytes-step = rw (one-left n j h, ← ti, ← is)
 
-  two-long : length two ≡ r
-  two-long = length-append (commandBytes t (valueOf d 1)) (commandBytes t (valueOf d 2)) ∙ sym p
-
-  commands-step : (o : ℕ) (cs : List Commands) {c : Commands} → c ≡ commandsAt o t d
-      → commandsFrom text ds o cs j (n - j) ≡ commandsFrom text ds (o + r) (set cs j c) (j + 1) (n - (j + 1))
+  commands-step : (o : ℕ) (cs : List Commands)
+      → commandsFrom text ds o cs j (n - j) ≡ commandsFrom text ds (o + roomOf t d) (set cs j (placesOf o t d)) (j + 1) (n - (j + 1))
   unfolding commandsFrom
-  commands-step o cs e = rw (e, p, one-left n j h, ti, is)
+  commands-step o cs = rw (one-left n j h, ti, is)
 
-  write-step : (o : ℕ) (b : List ℕ) {b′ : List ℕ} → b′ ≡ sets b o two → sets b o (bytesFrom text ds j (n - j)) ≡ sets b′ (o + r) after
-  write-step o b e = rw (e, bytes-step, ← two-long) (sets-append b o two after)
+  pub placing-more : {cs cs′ : List Commands} {o : ℕ} {p : Place} → Placing text ds n cs cs′ o j
+      → p ≡ record { commands = placesOf o t d; end = o + roomOf t d } → roomOf t d ≤ mostRoom
+      → Placing text ds n cs (set cs′ j (p .commands)) (p .end) (j + 1)
+  placing-more {cs′ = cs′} {o = o} k e small =
+      let a : length (bytesFrom text ds j (n - j)) ≡ roomOf t d + length after = ap length bytes-step ∙ length-append (keptOf t d) after in
+      rw e
+      (record {
+        within = omega arith;
+        bound = omega (arith, k .bound, small);
+        places = k .places ∙ commands-step o cs′;
+        rest = k .rest ∙ omega (arith, a);
+      })
 
-  pub counted-more : {o : ℕ} → Counted text ds n o j → Counted text ds n (o + r) (j + 1)
-  counted-more {o} k =
-      let a : length (bytesFrom text ds j (n - j)) ≡ length two + length after = ap length bytes-step ∙ length-append two after in
-      record { few = few-more (k .few) h small; rest = k .rest ∙ omega (arith, a, two-long) }
+  module _ {cs : List Commands} {b b′ : List ℕ} (k : Writing text ds n cs b b′ j) (y : Commands) where
+    place-told : getD cs j y ≡ placesOf (k .place) t d
+    place-told =
+        ap (λ (l : List Commands). getD l j y) (k .places ∙ commands-step (k .place) (k .before))
+        ∙ (commands-before text ds n (n - (j + 1)) (k .place + roomOf t d) (j + 1) j (set (k .before) j (placesOf (k .place) t d)) y (omega arith)
+        ∙ getD-set-same (k .before) j (placesOf (k .place) t d) y (omega (arith, k .whole)))
 
-  pub stored-more : {cs cs′ : List Commands} {b b′ b″ : List ℕ} {c : Commands} {o : ℕ} → Stored text ds n cs b cs′ b′ o j → c ≡ commandsAt o t d
-      → b″ ≡ sets b′ o two → Stored text ds n cs b (set cs′ j c) b″ (o + r) (j + 1)
-  stored-more {cs′ = cs′} {b′ = b′} {o = o} k e f = record {
-    few = few-more (k .few) h small;
-    long = ap length f ∙ length-sets b′ o two ∙ k .long;
-    places = k .places ∙ commands-step o cs′ e;
-    bytes = k .bytes ∙ write-step o b′ f;
-  }
+    start-told : getD cs j y .start .at ≡ k .place
+    unfolding placesOf
+    start-told = ap (λ (c : Commands). c .start .at) place-told
+
+    pub places-told : getD cs j y ≡ placesOf (getD cs j y .start .at) t d
+    places-told = place-told ∙ ap (λ (o : ℕ). placesOf o t d) (sym start-told)
+
+    pub writing-more : {b″ : List ℕ} → b″ ≡ sets b′ (getD cs j y .start .at) (keptOf t d) → Writing text ds n cs b b″ (j + 1)
+    writing-more e =
+        let w = e ∙ ap (λ (o : ℕ). sets b′ o (keptOf t d)) start-told in
+        record {
+          within = omega arith;
+          long = ap length w ∙ length-sets b′ (k .place) (keptOf t d) ∙ k .long;
+          place = k .place + roomOf t d;
+          before = set (k .before) j (placesOf (k .place) t d);
+          whole = length-set (k .before) j (placesOf (k .place) t d) ∙ k .whole;
+          places = k .places ∙ commands-step (k .place) (k .before);
+          bytes = k .bytes ∙ rw (w, bytes-step) (sets-append b′ (k .place) (keptOf t d) after);
+        }

@@ -7,6 +7,7 @@ use lib.ListN.{length, replicate}
 use Rattle.base.specs.Folds.{some, first}
 use Rattle.base.specs.Sets.{hasBit}
 use Rattle.base.specs.Links.{reach}
+use Rattle.service.specs.Numbers.{settingsFrom}
 use Rattle.service.specs.Settings.{defaultSettings, process}
 use Rattle.load_text.specs.Strings.{bytes, same, indexFrom, partOf}
 use Rattle.load_text.specs.Bytes.{run}
@@ -21,13 +22,14 @@ use Rattle.load_description.specs.Lines.{dependencyRead, wordRead, tokensRead, 
 use Rattle.load_description.specs.Texts.{completion, linesRead, textRead}
 use Rattle.load_lent.specs.declared.Answer.{Answer}
 use Rattle.load_lent.specs.declared.Answer.the-variants.{Accepted, Refused}
-use Rattle.load_tokens.specs.declared.Commands.{Commands}
+use Rattle.loader.specs.declared.tokens.Commands.{Commands}
 use Rattle.load_lent.specs.Parts.{risesTo, positioned, nameStart, nameAt, textAt}
 use Rattle.load_lent.specs.Checks.{find, namesFrom, sizesFrom}
+use Rattle.load_lent.specs.Refusals.{bare}
 use Rattle.loader.specs.Texts.{descriptionsFrom}
-use Rattle.load_links.specs.Links.{linksFrom, servicesFrom, lowestCyclic}
-use Rattle.load_tokens.specs.Tokens.{commandBytes, commandCount, bytesFrom, commandsFrom}
-use Rattle.loader.specs.Load.{Outcome, stored, acyclic, loadSet, load}
+use Rattle.load_links.specs.Links.{linksFrom, linksIn, servicesFrom, lowestCyclic}
+use Rattle.loader.specs.Tokens.{commandBytes, commandCount, keptOf, placesOf, bytesFrom, commandsFrom}
+use Rattle.loader.specs.Load.{Outcome, stored, acyclic, loadTexts, loadSet, load}
 
 -- a service's name and text
 pub record Service : Type 0 where
@@ -90,19 +92,19 @@ pub record Example : Type 0 where
 abbrev pub examples : List Example
 examples =
     record { case = lent "" [] 0; answer = Accepted } ∷
-    record { case = lent "" (replicate 66 0) 0; answer = Refused 1 0 0 } ∷
-    record { case = lent "" (replicate 67 0) 0; answer = Refused 1 0 0 } ∷
-    record { case = lent "" (replicate 65 0) 0; answer = Refused 2 0 0 } ∷
-    record { case = lent "atype=internal" (1 ∷ []) 0; answer = Refused 2 0 0 } ∷
-    record { case = lent "atype=internal" (1 ∷ 0 ∷ []) 0; answer = Refused 2 0 0 } ∷
-    record { case = lent "atype=internal" (1 ∷ 13 ∷ []) 0; answer = Refused 2 0 0 } ∷
-    record { case = lent "a" [] 0; answer = Refused 2 0 0 } ∷
+    record { case = lent "" (replicate 66 0) 0; answer = bare 1 0 } ∷
+    record { case = lent "" (replicate 67 0) 0; answer = bare 1 0 } ∷
+    record { case = lent "" (replicate 65 0) 0; answer = bare 2 0 } ∷
+    record { case = lent "atype=internal" (1 ∷ []) 0; answer = bare 2 0 } ∷
+    record { case = lent "atype=internal" (1 ∷ 0 ∷ []) 0; answer = bare 2 0 } ∷
+    record { case = lent "atype=internal" (1 ∷ 13 ∷ []) 0; answer = bare 2 0 } ∷
+    record { case = lent "a" [] 0; answer = bare 2 0 } ∷
     record { case = lent "atype=internal" (1 ∷ 14 ∷ []) 0; answer = Accepted } ∷
-    record { case = set (service "a" "" ∷ service "" "" ∷ []) 0; answer = Refused 3 1 0 } ∷
-    record { case = set (service "a" "" ∷ service "a/b" "" ∷ []) 0; answer = Refused 3 1 0 } ∷
-    record { case = set (service "a" "" ∷ service "a" "" ∷ service "" "" ∷ []) 0; answer = Refused 4 1 0 } ∷
+    record { case = set (service "a" "" ∷ service "" "" ∷ []) 0; answer = bare 3 1 } ∷
+    record { case = set (service "a" "" ∷ service "a/b" "" ∷ []) 0; answer = bare 3 1 } ∷
+    record { case = set (service "a" "" ∷ service "a" "" ∷ service "" "" ∷ []) 0; answer = bare 4 1 } ∷
     record { case = long "type=internal\n" 4082; answer = Accepted } ∷
-    record { case = long "type=internal\n" 4083; answer = Refused 5 0 0 } ∷
+    record { case = long "type=internal\n" 4083; answer = bare 5 0 } ∷
     -- from here on a line where the text has the fault; a text's 7, 13 or 14 comes before the next text's 6
     record { case = set (service "a" "bogus" ∷ service "b" "\u{1}" ∷ []) 0; answer = Refused 7 0 1 } ∷
     record { case = set (service "a" "type=internal" ∷ service "b" "# \n\u{1}" ∷ []) 0; answer = Refused 6 1 2 } ∷
@@ -111,21 +113,21 @@ examples =
     record { case = set (service "a" "options=x" ∷ []) 0; answer = Refused 10 0 1 } ∷
     record { case = set (service "a" "restart=maybe" ∷ []) 0; answer = Refused 11 0 1 } ∷
     record { case = set (service "a" "waits-for=a\nwaits-for=b\nwaits-for=c\nwaits-for=d\nwaits-for=e\nwaits-for=f\nwaits-for=g\nwaits-for=h\nwaits-for=i\nwaits-for=j\nwaits-for=k\nwaits-for=l\nwaits-for=m\nwaits-for=n\nwaits-for=o\nwaits-for=p\nwaits-for=q\n" ∷ []) 0; answer = Refused 12 0 17 } ∷
-    record { case = set (service "a" "depends-on=x" ∷ []) 0; answer = Refused 13 0 0 } ∷
-    record { case = set (service "a" "type=internal\ndepends-on=x" ∷ service "b" "type=process" ∷ []) 0; answer = Refused 14 1 0 } ∷
+    record { case = set (service "a" "depends-on=x" ∷ []) 0; answer = bare 13 0 } ∷
+    record { case = set (service "a" "type=internal\ndepends-on=x" ∷ service "b" "type=process" ∷ []) 0; answer = bare 14 1 } ∷
     record { case = set (service "a" "type=internal\n\nwaits-for=x\ndepends-on=y" ∷ []) 0; answer = Refused 15 0 3 } ∷
     -- 1 and 2 are on a cycle, which 0 only reaches; 16 comes before 25
-    record { case = set (service "a" "type=internal\ncommand=x\ndepends-on=b" ∷ service "b" "type=internal\ndepends-ms=c" ∷ service "c" "type=internal\nwaits-for=b" ∷ []) 0; answer = Refused 16 1 0 } ∷
-    record { case = set (service "a" "type=internal\nwaits-for=a" ∷ []) 0; answer = Refused 16 0 0 } ∷
+    record { case = set (service "a" "type=internal\ncommand=x\ndepends-on=b" ∷ service "b" "type=internal\ndepends-ms=c" ∷ service "c" "type=internal\nwaits-for=b" ∷ []) 0; answer = bare 16 1 } ∷
+    record { case = set (service "a" "type=internal\nwaits-for=a" ∷ []) 0; answer = bare 16 0 } ∷
     -- "the standing commands, unused ones too"; room of just the size is enough
-    record { case = set (service "a" "type=internal\ncommand=abc\ncommand=x y\nstop-command=z" ∷ []) 5; answer = Refused 25 0 0 } ∷
+    record { case = set (service "a" "type=internal\ncommand=abc\ncommand=x y\nstop-command=z" ∷ []) 5; answer = bare 25 0 } ∷
     record { case = set (service "a" "type=internal\ncommand=abc\ncommand=x y\nstop-command=z" ∷ []) 6; answer = Accepted } ∷
     []
 
 pub pair-loads : loadOf pair 30 ≡ pairLoaded
-unfolding lentOf endsFrom loadOf some first hasBit reach bytes same indexFrom partOf run lineOf linesOf badFrom lineFrom lineNumber opening stepOf bareStep faultFrom marksFrom countFrom scanOf written leading wordOf flagOf noOf kindOf signalNames signalOf nameBytes isName digitOf readOf decimalFrom timeEnd timeOf countEnd countOf propertyNames propertyOf settingOf valueAt wordAt known dependencyRead wordRead tokensRead propertyRead lineRead completion linesRead textRead risesTo positioned nameStart nameAt textAt find namesFrom sizesFrom descriptionsFrom linksFrom servicesFrom lowestCyclic commandBytes commandCount bytesFrom commandsFrom stored acyclic loadSet load
+unfolding lentOf endsFrom loadOf some first hasBit reach bytes same indexFrom partOf run lineOf linesOf badFrom lineFrom lineNumber opening stepOf bareStep faultFrom marksFrom countFrom scanOf written leading wordOf flagOf noOf kindOf signalNames signalOf nameBytes isName digitOf readOf decimalFrom timeEnd timeOf countEnd countOf propertyNames propertyOf settingOf settingsFrom valueAt wordAt known dependencyRead wordRead tokensRead propertyRead lineRead completion linesRead textRead risesTo positioned nameStart nameAt textAt find namesFrom sizesFrom descriptionsFrom linksFrom linksIn servicesFrom lowestCyclic commandBytes commandCount keptOf placesOf bytesFrom commandsFrom stored acyclic loadTexts loadSet load
 pair-loads = refl
 
 pub examples-hold : map (λ e. answerOf (e .case)) examples ≡ map (λ e. e .answer) examples
-unfolding lentOf endsFrom loadOf answerOf some first hasBit reach bytes same indexFrom partOf run lineOf linesOf badFrom lineFrom lineNumber opening stepOf bareStep faultFrom marksFrom countFrom scanOf written leading wordOf flagOf noOf kindOf signalNames signalOf nameBytes isName digitOf readOf decimalFrom timeEnd timeOf countEnd countOf propertyNames propertyOf settingOf valueAt wordAt known dependencyRead wordRead tokensRead propertyRead lineRead completion linesRead textRead risesTo positioned nameStart nameAt textAt find namesFrom sizesFrom descriptionsFrom linksFrom servicesFrom lowestCyclic commandBytes commandCount bytesFrom commandsFrom stored acyclic loadSet load
+unfolding lentOf endsFrom loadOf answerOf some first hasBit reach bytes same indexFrom partOf run lineOf linesOf badFrom lineFrom lineNumber opening stepOf bareStep faultFrom marksFrom countFrom scanOf written leading wordOf flagOf noOf kindOf signalNames signalOf nameBytes isName digitOf readOf decimalFrom timeEnd timeOf countEnd countOf propertyNames propertyOf settingOf settingsFrom valueAt wordAt known dependencyRead wordRead tokensRead propertyRead lineRead completion linesRead textRead risesTo positioned nameStart nameAt textAt find namesFrom sizesFrom descriptionsFrom linksFrom linksIn servicesFrom lowestCyclic commandBytes commandCount keptOf placesOf bytesFrom commandsFrom stored acyclic loadTexts loadSet load
 examples-hold = refl

@@ -1,5 +1,6 @@
 -- The definitions, each file after those that it cites.
 pub mod Short
+pub mod Tokens
 pub mod Texts
 pub mod Load
 pub mod Examples

@@ -18,9 +18,10 @@ use Rattle.load_links.specs.declared.Services.{Services}
 use Rattle.loader.specs.declared.Loaded.{Loaded}
 use Rattle.load_lent.specs.Parts.{serviceCount, positioned, nameAt, textAt}
 use Rattle.load_lent.specs.Checks.{namesFrom, sizesFrom}
+use Rattle.load_lent.specs.Refusals.{bare}
 use Rattle.loader.specs.Texts.{noDescriptions, descriptionsFrom}
 use Rattle.load_links.specs.Links.{servicesFrom, lowestCyclic}
-use Rattle.load_tokens.specs.Tokens.{bytesFrom, noCommands, commandsFrom}
+use Rattle.loader.specs.Tokens.{bytesFrom, noCommands, commandsFrom}
 
 -- what a load gives back, and what the lent buffer holds then
 pub record Outcome : Type 0 where
@@ -41,7 +42,7 @@ passed buffer (Refused n s l) on = refusedWith buffer (Refused n s l)
 
 -- the way on after a test: else a refusal of no line
 abbrev pub tested : List ℕ → Bool → ℕ → ℕ → Outcome → Outcome
-tested buffer test n s on = pick test on (refusedWith buffer (Refused n s 0))
+tested buffer test n s on = pick test on (refusedWith buffer (bare n s))
 
 -- 25: "lent room too small"; else the tokens go to the buffer, and "the rest is untouched"
 unfoldable pub stored : (ℕ → List ℕ) → List ℕ → ℕ → List Description → List Settings → Outcome
@@ -69,12 +70,15 @@ withDescriptions name text buffer n r =
     (withServices text buffer n (r .descriptions)
     (servicesFrom name text (r .descriptions) n (replicate maxServices defaultSettings) 0 n))
 
--- a set of n services, whose names and texts are given
+-- the texts of n services whose names are good: "all texts, 5; then each text in turn"
+unfoldable pub loadTexts : (ℕ → List ℕ) → (ℕ → List ℕ) → ℕ → List ℕ → Outcome
+loadTexts name text n buffer =
+    passed buffer (sizesFrom text 0 0 n)
+    (withDescriptions name text buffer n (descriptionsFrom text noDescriptions 0 n))
+
+-- a set of n services, whose names and texts are given: "all names, 3 then 4 each", before the texts
 unfoldable pub loadSet : (ℕ → List ℕ) → (ℕ → List ℕ) → ℕ → List ℕ → Outcome
-loadSet name text n buffer =
-    passed buffer (namesFrom name 0 n)
-    (passed buffer (sizesFrom text 0 0 n)
-    (withDescriptions name text buffer n (descriptionsFrom text noDescriptions 0 n)))
+loadSet name text n buffer = passed buffer (namesFrom name 0 n) (loadTexts name text n buffer)
 
 -- the load of lent bytes and positions, with a lent buffer for the tokens
 unfoldable pub load : List ℕ → List ℕ → List ℕ → Outcome

@@ -1,6 +1,10 @@
-// A set of descriptions, lent as bytes and positions, loaded to the table of its services.
+// A set of descriptions, lent as bytes and positions, loaded to the table of its services. It hands on all that a host of the load needs.
+mod tokens;
+
 use load_description::Description;
-use load_lent::Answer;
+pub use load_lent::Answer;
+pub use load_lent::MAX_TEXT;
+pub use load_lent::MAX_TEXTS;
 use load_lent::check_names;
 use load_lent::check_sizes;
 use load_lent::is_positioned;
@@ -9,36 +13,41 @@ use load_lent::text_at;
 use load_links::lowest_cyclic;
 use load_links::make_services;
 use load_reader::read_text;
-use service::MAX_SERVICES;
-use service::Settings;
-use service::Table;
-use load_tokens::Commands;
-use load_tokens::Tokens;
-use load_tokens::command_count;
-use load_tokens::command_room;
-use load_tokens::write_command;
+pub use load_text::LONGEST_NAME;
 use load_text::Verdict;
+pub use service::Kind;
+pub use service::MAX_SERVICES;
+pub use service::Settings;
+pub use service::Signal;
+pub use service::Table;
+pub use tokens::Commands;
+pub use tokens::Tokens;
+use tokens::place_service;
+use tokens::write_service;
 ghost use mathlib.Core.Path.{_≡_};
-ghost use mathlib.Core.List.{_++_};
-ghost use Prim.Native.Nat.{_≤_, _<_};
+ghost use Prim.Native.Nat.{_≤_};
 ghost use lib.ListN.{length, replicate};
 ghost use lib.Seq.{sets};
 ghost use Rattle.service.specs.Limits.{maxServices};
 ghost use Rattle.service.specs.Settings.{defaultSettings, noServices};
-ghost use Rattle.load_description.specs.Settings.{valueOf};
 ghost use Rattle.load_lent.specs.declared.Answer.the-variants.{Accepted};
-ghost use Rattle.load_lent.specs.Parts.{nameAt, textAt};
+ghost use Rattle.load_lent.specs.Parts.{nameAt, serviceCount, textAt};
 ghost use Rattle.load_links.specs.Links.{servicesFrom};
-ghost use Rattle.load_tokens.specs.Tokens.{bytesFrom, commandBytes, commandsAt, commandsFrom, noCommands, roomOf};
-ghost use Rattle.load_lent.specs.Checks.{longestText};
-ghost use Rattle.loader.specs.Short.{Short, mostRoom};
+ghost use Rattle.loader.specs.Short.{Short};
+ghost use Rattle.loader.specs.Tokens.{bytesFrom, commandsFrom, noCommands};
 ghost use Rattle.loader.specs.Texts.{descriptionsFrom, descriptionsOn, noDescriptions};
-ghost use Rattle.loader.specs.Load.{Outcome, acyclic, load, loadSet, stored, withDescriptions, withServices};
+ghost use Rattle.loader.specs.Load.{Outcome, acyclic, load, loadSet, loadTexts, stored, withDescriptions, withServices};
 
 // The descriptions read so far, by service.
 pub struct Descriptions {
     pub answer: Answer,
     pub descriptions: [Description; MAX_SERVICES],
+}
+
+// Where what is kept of each service is, and the room that all of it takes.
+pub struct Placed {
+    pub commands: [Commands; MAX_SERVICES],
+    pub room: usize,
 }
 
 // What a load gives: its answer, the table, and where the tokens of each service's command and stop-command are.
@@ -105,93 +114,52 @@ fn read_texts(lent: &[u8], ends: &[usize], n: usize) -> Descriptions
     read_into(lent, ends, n, [none; MAX_SERVICES])
 }
 
-// The room that a service's two commands take.
-fn room_of(text: &[u8], d: Description) -> usize
-    requires { ⌜ length (now text) ≤ longestText ⌝ }
-    ensures { λ r. ⌜ (r ≡ roomOf (now (text .entry)) d) × (r ≤ mostRoom) ⌝ }
-{
-    let start = d.values[1] as usize;
-    let stop = d.values[2] as usize;
-    let first = command_room(text, start);
-    let second = command_room(text, stop);
-    first + second
-}
-
-// Where the tokens of a service's two commands are, from the place o on.
-fn place_commands(text: &[u8], d: Description, o: usize) -> Commands
-    requires { ⌜ (length (now text) ≤ longestText) × (o < 4294967296) ⌝ }
-    ensures { λ r. ⌜ r ≡ commandsAt o (now (text .entry)) d ⌝ }
-{
-    let start = d.values[1] as usize;
-    let stop = d.values[2] as usize;
-    let first = command_count(text, start);
-    let second = command_count(text, stop);
-    let room = command_room(text, start);
-    Commands {
-        start: Tokens {
-            at: o,
-            count: first,
-        },
-        stop: Tokens {
-            at: o + room,
-            count: second,
-        },
-    }
-}
-
-// The room that all tokens take.
-fn room_for(lent: &[u8], ends: &[usize], n: usize, ds: [Description; MAX_SERVICES]) -> usize
-    requires { ⌜ (n ≤ maxServices) × Short (textAt (now lent) (now ends)) n ⌝ }
-    ensures { λ r. ⌜ r ≡ length (bytesFrom (textAt (now (lent .entry)) (now (ends .entry))) ds 0 n) ⌝ }
-{
-    let mut o: usize = 0;
-    let mut j: usize = 0;
-    while j < n {
-        let text = text_at(lent, ends, j);
-        let d = ds[j];
-        o += room_of(text, d);
-        j += 1;
-    }
-    o
-}
-
-// Writes the tokens of a service's two commands from the place o on.
-fn write_commands(text: &[u8], d: Description, tokens: &mut [u8], o: usize)
-    requires { ⌜ (length (now text) ≤ longestText) × (o < 4294967296) ⌝ }
-    ensures { λ _. ⌜ now (tokens .exit) ≡ sets (now (tokens .entry)) o (commandBytes (now (text .entry)) (valueOf d 1) ++ commandBytes (now (text .entry)) (valueOf d 2)) ⌝ }
-{
-    let start = d.values[1] as usize;
-    let stop = d.values[2] as usize;
-    write_command(text, start, tokens, o);
-    let room = command_room(text, start);
-    write_command(text, stop, tokens, o + room);
-}
-
-// Writes the tokens of all services from the start of the buffer on, and tells where they are, put into the places given.
-fn write_all(
+// Finds the place of what is kept of each service, one after the other from the start of the buffer on, put into the places given.
+fn place_all(
     lent: &[u8],
     ends: &[usize],
     n: usize,
     ds: [Description; MAX_SERVICES],
     none: [Commands; MAX_SERVICES],
-    tokens: &mut [u8],
-) -> [Commands; MAX_SERVICES]
+) -> Placed
     requires { ⌜ (n ≤ maxServices) × Short (textAt (now lent) (now ends)) n ⌝ }
-    ensures { λ r. ⌜ r ≡ commandsFrom (textAt (now (lent .entry)) (now (ends .entry))) ds 0 none 0 n ⌝ }
-    ensures written { λ r. ⌜ now (tokens .exit) ≡ sets (now (tokens .entry)) 0 (bytesFrom (textAt (now (lent .entry)) (now (ends .entry))) ds 0 n) ⌝ }
+    ensures { λ r. ⌜ r ≡ record { commands = commandsFrom (textAt (now (lent .entry)) (now (ends .entry))) ds 0 none 0 n; room = length (bytesFrom (textAt (now (lent .entry)) (now (ends .entry))) ds 0 n) } ⌝ }
 {
-    let mut all = none;
-    let mut o: usize = 0;
+    let mut commands = none;
+    let mut room: usize = 0;
     let mut j: usize = 0;
     while j < n {
         let text = text_at(lent, ends, j);
         let d = ds[j];
-        all[j] = place_commands(text, d, o);
-        write_commands(text, d, tokens, o);
-        o += room_of(text, d);
+        let place = place_service(text, d, room);
+        let c = place.commands;
+        commands[j] = c;
+        room = place.end;
         j += 1;
     }
-    all
+    Placed { commands, room }
+}
+
+// Writes what is kept of each service to its place.
+fn write_all(
+    lent: &[u8],
+    ends: &[usize],
+    n: usize,
+    ds: [Description; MAX_SERVICES],
+    commands: [Commands; MAX_SERVICES],
+    tokens: &mut [u8],
+)
+    requires { ⌜ (n ≤ maxServices) × (commands ≡ commandsFrom (textAt (now lent) (now ends)) ds 0 noCommands 0 n) ⌝ }
+    ensures { λ _. ⌜ now (tokens .exit) ≡ sets (now (tokens .entry)) 0 (bytesFrom (textAt (now (lent .entry)) (now (ends .entry))) ds 0 n) ⌝ }
+{
+    let mut j: usize = 0;
+    while j < n {
+        let text = text_at(lent, ends, j);
+        let d = ds[j];
+        let c = commands[j];
+        write_service(text, d, c, tokens);
+        j += 1;
+    }
 }
 
 // What is beside a refusal: the table of no services, and no commands.
@@ -211,102 +179,103 @@ fn refuse(answer: Answer) -> Loaded
 fn store(
     lent: &[u8],
     ends: &[usize],
-    n: usize,
     ds: [Description; MAX_SERVICES],
     services: [Settings; MAX_SERVICES],
     tokens: &mut [u8],
 ) -> Loaded
-    requires { ⌜ (n ≤ maxServices) × Short (textAt (now lent) (now ends)) n ⌝ }
-    ensures { λ r. ⌜ _≡_ {A = Outcome} (record { loaded = r; buffer = now (tokens .exit) }) (stored (textAt (now (lent .entry)) (now (ends .entry))) (now (tokens .entry)) n ds services) ⌝ }
+    requires { ⌜ (serviceCount (now ends) ≤ maxServices) × Short (textAt (now lent) (now ends)) (serviceCount (now ends)) ⌝ }
+    ensures { λ r. ⌜ _≡_ {A = Outcome} (record { loaded = r; buffer = now (tokens .exit) }) (stored (textAt (now (lent .entry)) (now (ends .entry))) (now (tokens .entry)) (serviceCount (now (ends .entry))) ds services) ⌝ }
 {
-    let room = room_for(lent, ends, n, ds);
+    let n = ends.len() / 2;
+    let none = Commands::NONE;
+    let placed = place_all(lent, ends, n, ds, [none; MAX_SERVICES]);
+    let room = placed.room;
     if room <= tokens.len() {
-        let none = Commands::NONE;
-        let commands = write_all(lent, ends, n, ds, [none; MAX_SERVICES], tokens);
+        let commands = placed.commands;
+        write_all(lent, ends, n, ds, commands, tokens);
         return Loaded {
             answer: Answer::Accepted,
             table: Table { count: n, services },
             commands,
         };
     }
-    refuse(Answer::Refused {
-        number: 25,
-        service: 0,
-        line: 0,
-    })
+    refuse(Answer::bare(25, 0))
 }
 
 // 16, before the tokens.
 fn store_acyclic(
     lent: &[u8],
     ends: &[usize],
-    n: usize,
     ds: [Description; MAX_SERVICES],
     services: [Settings; MAX_SERVICES],
     tokens: &mut [u8],
 ) -> Loaded
-    requires { ⌜ (n ≤ maxServices) × Short (textAt (now lent) (now ends)) n ⌝ }
-    ensures { λ r. ⌜ _≡_ {A = Outcome} (record { loaded = r; buffer = now (tokens .exit) }) (acyclic (textAt (now (lent .entry)) (now (ends .entry))) (now (tokens .entry)) n ds services) ⌝ }
+    requires { ⌜ (serviceCount (now ends) ≤ maxServices) × Short (textAt (now lent) (now ends)) (serviceCount (now ends)) ⌝ }
+    ensures { λ r. ⌜ _≡_ {A = Outcome} (record { loaded = r; buffer = now (tokens .exit) }) (acyclic (textAt (now (lent .entry)) (now (ends .entry))) (now (tokens .entry)) (serviceCount (now (ends .entry))) ds services) ⌝ }
 {
+    let n = ends.len() / 2;
     let low = lowest_cyclic(services, n);
     if n <= low {
-        return store(lent, ends, n, ds, services, tokens);
+        return store(lent, ends, ds, services, tokens);
     }
-    refuse(Answer::Refused {
-        number: 16,
-        service: low,
-        line: 0,
-    })
+    refuse(Answer::bare(16, low))
 }
 
 // The dependencies, 15, before the cycle.
 fn link_set(
     lent: &[u8],
     ends: &[usize],
-    n: usize,
     ds: [Description; MAX_SERVICES],
     tokens: &mut [u8],
 ) -> Loaded
-    requires { ⌜ (n ≤ maxServices) × Short (textAt (now lent) (now ends)) n ⌝ }
-    ensures { λ r. ⌜ _≡_ {A = Outcome} (record { loaded = r; buffer = now (tokens .exit) }) (withServices (textAt (now (lent .entry)) (now (ends .entry))) (now (tokens .entry)) n ds (servicesFrom (nameAt (now (lent .entry)) (now (ends .entry))) (textAt (now (lent .entry)) (now (ends .entry))) ds n (replicate maxServices defaultSettings) 0 n)) ⌝ }
+    requires { ⌜ (serviceCount (now ends) ≤ maxServices) × Short (textAt (now lent) (now ends)) (serviceCount (now ends)) ⌝ }
+    ensures { λ r. ⌜ _≡_ {A = Outcome} (record { loaded = r; buffer = now (tokens .exit) }) (withServices (textAt (now (lent .entry)) (now (ends .entry))) (now (tokens .entry)) (serviceCount (now (ends .entry))) ds (servicesFrom (nameAt (now (lent .entry)) (now (ends .entry))) (textAt (now (lent .entry)) (now (ends .entry))) ds (serviceCount (now (ends .entry))) (replicate maxServices defaultSettings) 0 (serviceCount (now (ends .entry))))) ⌝ }
 {
-    let made = make_services(lent, ends, n, ds);
+    let made = make_services(lent, ends, ds);
     let answer = made.answer;
     let Answer::Accepted = answer else {
         return refuse(answer);
     };
     let services = made.services;
-    store_acyclic(lent, ends, n, ds, services, tokens)
+    store_acyclic(lent, ends, ds, services, tokens)
 }
 
-// The texts in turn, before their dependencies.
-fn read_set(lent: &[u8], ends: &[usize], n: usize, tokens: &mut [u8]) -> Loaded
-    requires { ⌜ (n ≤ maxServices) × Short (textAt (now lent) (now ends)) n ⌝ }
-    ensures { λ r. ⌜ _≡_ {A = Outcome} (record { loaded = r; buffer = now (tokens .exit) }) (withDescriptions (nameAt (now (lent .entry)) (now (ends .entry))) (textAt (now (lent .entry)) (now (ends .entry))) (now (tokens .entry)) n (descriptionsFrom (textAt (now (lent .entry)) (now (ends .entry))) noDescriptions 0 n)) ⌝ }
+// Each text in turn, before their dependencies.
+fn read_set(lent: &[u8], ends: &[usize], tokens: &mut [u8]) -> Loaded
+    requires { ⌜ (serviceCount (now ends) ≤ maxServices) × Short (textAt (now lent) (now ends)) (serviceCount (now ends)) ⌝ }
+    ensures { λ r. ⌜ _≡_ {A = Outcome} (record { loaded = r; buffer = now (tokens .exit) }) (withDescriptions (nameAt (now (lent .entry)) (now (ends .entry))) (textAt (now (lent .entry)) (now (ends .entry))) (now (tokens .entry)) (serviceCount (now (ends .entry))) (descriptionsFrom (textAt (now (lent .entry)) (now (ends .entry))) noDescriptions 0 (serviceCount (now (ends .entry))))) ⌝ }
 {
-    let read = read_texts(lent, ends, n);
+    let read = read_texts(lent, ends, ends.len() / 2);
     let answer = read.answer;
     let Answer::Accepted = answer else {
         return refuse(answer);
     };
     let ds = read.descriptions;
-    link_set(lent, ends, n, ds, tokens)
+    link_set(lent, ends, ds, tokens)
 }
 
-// All names, then all sizes, before the texts.
-fn load_set(lent: &[u8], ends: &[usize], n: usize, tokens: &mut [u8]) -> Loaded
-    requires { ⌜ n ≤ maxServices ⌝ }
-    ensures { λ r. ⌜ _≡_ {A = Outcome} (record { loaded = r; buffer = now (tokens .exit) }) (loadSet (nameAt (now (lent .entry)) (now (ends .entry))) (textAt (now (lent .entry)) (now (ends .entry))) n (now (tokens .entry))) ⌝ }
+// The texts of a set whose names are good: all sizes, 5, and on.
+fn load_texts(lent: &[u8], ends: &[usize], tokens: &mut [u8]) -> Loaded
+    requires { ⌜ serviceCount (now ends) ≤ maxServices ⌝ }
+    ensures { λ r. ⌜ _≡_ {A = Outcome} (record { loaded = r; buffer = now (tokens .exit) }) (loadTexts (nameAt (now (lent .entry)) (now (ends .entry))) (textAt (now (lent .entry)) (now (ends .entry))) (serviceCount (now (ends .entry))) (now (tokens .entry))) ⌝ }
 {
-    let names = check_names(lent, ends, n);
-    let Answer::Accepted = names else {
-        return refuse(names);
-    };
-    let sizes = check_sizes(lent, ends, n);
+    let sizes = check_sizes(lent, ends);
     let Answer::Accepted = sizes else {
         return refuse(sizes);
     };
-    read_set(lent, ends, n, tokens)
+    read_set(lent, ends, tokens)
+}
+
+// All names, 3 and 4, before the texts.
+fn load_set(lent: &[u8], ends: &[usize], tokens: &mut [u8]) -> Loaded
+    requires { ⌜ serviceCount (now ends) ≤ maxServices ⌝ }
+    ensures { λ r. ⌜ _≡_ {A = Outcome} (record { loaded = r; buffer = now (tokens .exit) }) (loadSet (nameAt (now (lent .entry)) (now (ends .entry))) (textAt (now (lent .entry)) (now (ends .entry))) (serviceCount (now (ends .entry))) (now (tokens .entry))) ⌝ }
+{
+    let names = check_names(lent, ends);
+    let Answer::Accepted = names else {
+        return refuse(names);
+    };
+    load_texts(lent, ends, tokens)
 }
 
 // Loads a set: lent has each service's name and text in turn, ends the position where each ends. The tokens of the commands go to the
@@ -318,17 +287,9 @@ pub fn load(lent: &[u8], ends: &[usize], tokens: &mut [u8]) -> Loaded
     if n <= MAX_SERVICES {
         let positioned = is_positioned(lent, ends);
         if positioned {
-            return load_set(lent, ends, n, tokens);
+            return load_set(lent, ends, tokens);
         }
-        return refuse(Answer::Refused {
-            number: 2,
-            service: 0,
-            line: 0,
-        });
+        return refuse(Answer::bare(2, 0));
     }
-    refuse(Answer::Refused {
-        number: 1,
-        service: 0,
-        line: 0,
-    })
+    refuse(Answer::bare(1, 0))
 }

@@ -1,4 +1,4 @@
--- The forms are as many as said, and that of a load stands where it is said; worked examples of lines, in one table with one
+-- The forms are as many as said, and stand where it is said; worked examples of lines, in one table with one
 -- statement.
 use Prim.Native.Nat.{ℕ, _+_}
 use Prim.Native.String.{String}
@@ -10,21 +10,31 @@ use Rattle.base.specs.Folds.{every, first}
 use Rattle.service.specs.Numbers.{causeNumber, phaseNumber}
 use Rattle.service.specs.declared.Cause.the-variants.{Failed, Released}
 use Rattle.service.specs.declared.Phase.the-variants.{Ending, Starting}
-use Rattle.load_text.specs.Strings.{bytes, same}
+use Rattle.load_text.specs.Strings.{bytes, same, indexFrom}
 use Rattle.scenario_words.specs.Numbers.{withDigit, numberFrom, numberOf, numberTo}
 use Rattle.scenario_words.specs.Pieces.{piecesOf, placeOf}
 use Rattle.scenario_lines.specs.declared.Command.{Command}
-use Rattle.scenario_lines.specs.Forms.{forms, formCount, mostOf, valueOf, beginsAs, fitsForm, formOf, readForm}
-use Rattle.scenario_lines.specs.Lines.{load, loadAt, nothing, begin, addLine, addPiece, plain, bad, setRecord}
+use Rattle.scenario_lines.specs.Forms.{forms, verbOf, formCount, mostOf, valueOf, beginsAs, fitsForm, formOf, readForm}
+use Rattle.scenario_lines.specs.Lines.{load, loadAt, nothing, begin, addLine, addPiece, plain, bad}
+use Rattle.scenario_lines.specs.Lines.{setClock, setRecord, setRecordLast, setCount, setTable, setTableLast}
 use Rattle.scenario_lines.specs.Lines.{areNumbers, readLoad, readParted, openingOf, readAny, hasNeeded, readAfter, commandOf}
 
 pub forms-counted : length forms ≡ formCount
 unfolding bytes forms
 forms-counted = refl
 
-pub load-stands : getD forms load [] ≡ bytes "load #65536"
-unfolding bytes forms
-load-stands = refl
+-- the verbs that the definitions name are those of their forms
+pub verbs-stand : setClock ∷ setRecord ∷ setRecordLast ∷ setCount ∷ setTable ∷ setTableLast ∷ load ∷ [] ≡ map verbOf (
+    "set clock #" ∷
+    "set #service phase down|waiting|starting|up|ending" ∷
+    "set #service restarts #" ∷
+    "table count #" ∷
+    "table #service restart-delay #" ∷
+    "table #service waits-for #" ∷
+    "load #65536" ∷
+    [])
+unfolding bytes indexFrom same forms
+verbs-stand = refl
 
 -- a line, whether a service was begun and a set loaded before it, and what it asks for
 pub record Example : Type 0 where

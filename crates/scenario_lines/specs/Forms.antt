@@ -1,12 +1,13 @@
 -- What a line of a scenario may be, as forms, and how a line fits one.
 use Prim.Native.Nat.{ℕ, _-_}
+use Prim.Native.String.{String}
 use mathlib.Core.Bool.{Bool, _&&_}
 use mathlib.Core.List.{List, [], _∷_, map}
 use lib.Dec.{eqb}
 use lib.ListN.{getD, drop}
 use Rattle.base.specs.Folds.{pick, every, first}
 use Rattle.service.specs.Limits.{maxServices}
-use Rattle.load_text.specs.Strings.{bytes, same}
+use Rattle.load_text.specs.Strings.{bytes, same, indexFrom}
 use Rattle.scenario_words.specs.declared.Read.{Read}
 use Rattle.scenario_words.specs.Numbers.{numberOf, numberTo}
 use Rattle.scenario_words.specs.Pieces.{pieceOf, pieceCount, placeOf}
@@ -49,6 +50,35 @@ forms = map bytes (
     "table #service stop-timeout #" ∷
     "table #service depends-on #" ∷
     "table #service depends-ms #" ∷
+    "table #service waits-for #" ∷
+    "load #65536" ∷
+    "load #65536 -" ∷
+    [])
+
+-- the verb of the lines that fit a form
+abbrev pub verbOf : String → ℕ
+verbOf form = indexFrom (bytes form) 0 forms
+
+-- the verbs of the forms that a program names, in their order; of those that set a record or a table's settings the first and the last
+unfoldable pub namedVerbs : List ℕ
+unfolding bytes indexFrom same forms
+namedVerbs = map verbOf (
+    "next" ∷
+    "run" ∷
+    "run #256 #256" ∷
+    "start #" ∷
+    "stop #" ∷
+    "stop-all" ∷
+    "end # bad|good" ∷
+    "clock #" ∷
+    "query" ∷
+    "state" ∷
+    "show" ∷
+    "set clock #" ∷
+    "set #service phase down|waiting|starting|up|ending" ∷
+    "set #service restarts #" ∷
+    "table count #" ∷
+    "table #service restart-delay #" ∷
     "table #service waits-for #" ∷
     "load #65536" ∷
     "load #65536 -" ∷

@@ -1,6 +1,5 @@
 // A line of a scenario, read to what it asks for. A line is held to forms in turn, word by word; some lines are told by
 // their first byte or word, and a load with positions has a form of its own.
-use service::MAX_SERVICES;
 use load_text::byte_at;
 use load_text::same_bytes;
 use load_text::tail;
@@ -10,10 +9,11 @@ use scenario_words::number_to;
 use scenario_words::piece;
 use scenario_words::pieces;
 use scenario_words::place;
+use service::MAX_SERVICES;
 ghost use mathlib.Core.Path.{_≡_};
 ghost use Prim.Native.Nat.{_≤_};
 ghost use Rattle.scenario_words.specs.Pieces.{piecesOf};
-ghost use Rattle.scenario_lines.specs.Forms.{mostOf, valueOf, valueAt, beginsAs, fitsForm, formOf, readForm};
+ghost use Rattle.scenario_lines.specs.Forms.{namedVerbs, mostOf, valueOf, valueAt, beginsAs, fitsForm, formOf, readForm};
 ghost use Rattle.scenario_lines.specs.Lines.{bad, mostPositions, areNumbers, readLoad, readParted, openingOf, readAny, hasNeeded, readAfter, commandOf};
 
 // What a line asks for: the place of its form, or one of the numbers after it; and the numbers of its second word and of
@@ -116,6 +116,33 @@ table #service depends-ms #
 table #service waits-for #
 load #65536
 load #65536 -";
+
+// The verbs that have a name here, in the order of their forms. That the names stand for these forms is what it promises.
+pub fn named_verbs() -> [usize; 19]
+    ensures { λ r. ⌜ r ≡ namedVerbs ⌝ }
+{
+    [
+        NEXT,
+        RUN,
+        RUN_IN,
+        START,
+        STOP,
+        STOP_ALL,
+        END,
+        CLOCK,
+        QUERY,
+        STATE,
+        SHOW,
+        SET_CLOCK,
+        SET_RECORD,
+        SET_RECORD_LAST,
+        SET_COUNT,
+        SET_TABLE,
+        SET_TABLE_LAST,
+        LOAD,
+        LOAD_NONE,
+    ]
+}
 
 // The most that a number may be where a form has this word.
 fn most(form: &[u8]) -> u64

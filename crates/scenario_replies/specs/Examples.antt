@@ -1,7 +1,44 @@
--- Answers computed: of next actions, of queries and of loads.
+-- The texts by their places, and answers computed: of next actions, of queries and of loads.
 use mathlib.Core.Bool.{true, false}
 use mathlib.Core.Path.{_≡_, refl}
+use mathlib.Core.List.{[], _∷_, map}
+use lib.ListN.{getD}
+use Rattle.load_text.specs.Strings.{bytes}
+use Rattle.scenario_replies.specs.Texts.{texts}
+use Rattle.scenario_replies.specs.Replies.{okText, okCountText, refusedText, loadRefusedText, badLineText, quietText}
+use Rattle.scenario_replies.specs.Replies.{movedText, launchText, stopCommandText, signalText, earliestText, noEarliestText}
 use Rattle.scenario_replies.specs.Replies.{replyOf, nextReply, queryReply, loadReply}
+
+-- the texts stand where the definitions say
+pub texts-stand : map (λ p. getD texts p []) (
+    okText ∷
+    okCountText ∷
+    refusedText ∷
+    loadRefusedText ∷
+    badLineText ∷
+    quietText ∷
+    movedText ∷
+    launchText ∷
+    stopCommandText ∷
+    signalText ∷
+    earliestText ∷
+    noEarliestText ∷
+    []) ≡ map bytes (
+    "ok" ∷
+    "ok #" ∷
+    "refused #" ∷
+    "refused # service # line #" ∷
+    "bad line #" ∷
+    "quiet" ∷
+    "moved #" ∷
+    "launch #" ∷
+    "stop-command #" ∷
+    "signal # G" ∷
+    "at #" ∷
+    "none" ∷
+    [])
+unfolding bytes texts
+texts-stand = refl
 
 -- "signal 4 TERM", which is place 3 of the signals
 pub signal-told : nextReply (record { refusal = 0; quiet = false; service = 4; action = 6 }) ≡ replyOf 9 4 3

@@ -1,3 +1,4 @@
 -- The definitions, each file after those that it cites.
+pub mod Texts
 pub mod Replies
 pub mod Examples

@@ -3,6 +3,7 @@ use plain::Asked;
 use plain::Load;
 use plain::Next;
 ghost use mathlib.Core.Path.{_≡_};
+ghost use Rattle.scenario_replies.specs.Texts.{texts, lined, places};
 ghost use Rattle.scenario_replies.specs.Replies.{replyOf, okReply, badReply, refusedReply, eventReply, actionText, actionSignal, nextReply, queryReply, loadReply};
 
 // The texts of the answers, one on a line, and the lists of names.
@@ -92,6 +93,48 @@ pub const KINDS: usize = 24;
 pub const SIGNALS: usize = 25;
 
 pub const RESTARTS: usize = 26;
+
+// The texts of the answers, each with its newline but the last.
+pub fn texts() -> [u8; 694]
+    ensures { λ r. ⌜ r ≡ lined texts ⌝ }
+{
+    TEXTS
+}
+
+// The places of the texts, in their order. That the names above stand for these texts is what it promises.
+pub fn places() -> [usize; 27]
+    ensures { λ r. ⌜ r ≡ places ⌝ }
+{
+    [
+        OK,
+        OK_COUNT,
+        REFUSED,
+        LOAD_REFUSED,
+        BAD_LINE,
+        QUIET,
+        MOVED,
+        LAUNCH,
+        STOP_COMMAND,
+        SIGNAL,
+        RUN_COUNT,
+        EARLIEST,
+        NO_EARLIEST,
+        CLOCK_LINE,
+        RECORD,
+        RECORD_TIMED,
+        SETTINGS,
+        COMMANDS,
+        NO_TOKENS,
+        TOKENS,
+        SERVICE_HEAD,
+        SERVICE_TAIL,
+        PHASES,
+        CAUSES,
+        KINDS,
+        SIGNALS,
+        RESTARTS,
+    ]
+}
 
 // An answer: the place of its text, and up to three numbers.
 pub struct Reply {

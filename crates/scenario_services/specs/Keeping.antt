@@ -9,7 +9,7 @@ use lib.Seq.{sets}
 use Rattle.base.specs.Folds.{pick}
 use Rattle.service.specs.Limits.{maxServices}
 use Rattle.load_text.specs.Lines.{lineOf}
-use Rattle.load_word.specs.Words.{longestName}
+use Rattle.load_text.specs.Bytes.{longestName}
 use Rattle.load_lent.specs.Checks.{longestText}
 use Rattle.scenario_lines.specs.Lines.{begin, addLine, addPiece, mostPositions}
 use Rattle.scenario_services.specs.declared.Given.{Given}

@@ -1,5 +1,9 @@
 // The services that a scenario has given so far, as they are lent to a load: names and texts one after the other, and where each ends.
 use load_lent::MAX_TEXT;
+use load_text::LONGEST_NAME;
+use load_text::line_end;
+use load_text::part;
+use load_text::tail;
 use scenario_lines::ADD_LINE;
 use scenario_lines::ADD_PIECE;
 use scenario_lines::BEGIN;
@@ -7,13 +11,9 @@ use scenario_lines::Command;
 use scenario_lines::LOAD;
 use scenario_lines::LOAD_AT;
 use scenario_lines::MOST_POSITIONS;
-use service::MAX_SERVICES;
-use load_text::line_end;
-use load_text::part;
-use load_text::tail;
-use load_word::LONGEST_NAME;
 use scenario_words::number;
 use scenario_words::piece;
+use service::MAX_SERVICES;
 ghost use mathlib.Core.Path.{_≡_};
 ghost use Prim.Native.Nat.{_≤_};
 ghost use lib.ListN.{length, take, set};

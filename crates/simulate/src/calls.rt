@@ -2,19 +2,12 @@
 use crate::output::Output;
 use crate::writing::put_reply;
 use crate::writing::put_run;
-use plain_encoding::Numbers;
 use plain::Event;
 use plain::event;
 use plain::next_action;
 use plain::query;
 use plain::run_to_quiet;
-use scenario_replies::Reply;
-use scenario_replies::bad_reply;
-use scenario_replies::event_reply;
-use scenario_replies::next_reply;
-use scenario_replies::ok_reply;
-use scenario_replies::query_reply;
-use scenario_replies::refused_reply;
+use plain_encoding::Numbers;
 use scenario_lines::BAD;
 use scenario_lines::Command;
 use scenario_lines::END;
@@ -26,6 +19,13 @@ use scenario_lines::SET_TABLE_LAST;
 use scenario_lines::START;
 use scenario_lines::STOP;
 use scenario_lines::STOP_ALL;
+use scenario_replies::Reply;
+use scenario_replies::bad_reply;
+use scenario_replies::event_reply;
+use scenario_replies::next_reply;
+use scenario_replies::ok_reply;
+use scenario_replies::query_reply;
+use scenario_replies::refused_reply;
 use scenario_setting::set;
 
 fn event_of(command: Command) -> Event {

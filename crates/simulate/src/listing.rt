@@ -7,11 +7,12 @@ use crate::output::Output;
 use crate::output::put;
 use crate::output::put_bytes;
 use crate::output::put_hex_bytes;
+use load_lent::name_at;
+use load_text::part;
+use plain::Counts;
 use plain_encoding::EACH;
 use plain_encoding::FRONT;
 use plain_encoding::Numbers;
-use load_lent::name_at;
-use plain::Counts;
 use scenario_replies::CLOCK_LINE;
 use scenario_replies::COMMANDS;
 use scenario_replies::NO_TOKENS;
@@ -22,7 +23,6 @@ use scenario_replies::SERVICE_TAIL;
 use scenario_replies::SETTINGS;
 use scenario_replies::TOKENS;
 use service::MAX_SERVICES;
-use load_text::part;
 
 // The numbers from a place on, so many of them.
 fn range(numbers: &[u64], from: usize, count: usize) -> &[u64] {

@@ -2,21 +2,21 @@
 use crate::listing::put_services;
 use crate::output::Output;
 use crate::writing::put_reply;
+use load_text::part;
+use plain::Counts;
+use plain::Load;
+use plain::load;
 use plain_encoding::Numbers;
+use scenario_lines::Command;
+use scenario_replies::load_reply;
 use scenario_services::Buffer;
 use scenario_services::Given;
 use scenario_services::Positions;
 use scenario_services::bare;
 use scenario_services::lent_positions;
 use scenario_services::take_positions;
-use plain::Counts;
-use plain::Load;
-use plain::load;
-use scenario_replies::load_reply;
-use scenario_lines::Command;
 use service::Refusal;
 use service::refusal_number;
-use load_text::part;
 
 pub(crate) type TokenBuffer = [u8; 65536];
 

@@ -3,7 +3,7 @@
 
 use second::program::{check_services, Files, INPUT_BYTES};
 use std::ffi::OsStr;
-use std::fs::File;
+use std::fs::{self, File};
 use std::io::{self, Read, Write};
 use std::os::unix::ffi::OsStrExt;
 
@@ -11,7 +11,14 @@ struct CurrentFolder;
 
 impl Files for CurrentFolder {
     fn read(&mut self, name: &[u8], most: usize) -> Option<Vec<u8>> {
-        let file = File::open(OsStr::from_bytes(name)).ok()?;
+        let name = OsStr::from_bytes(name);
+        // Only a regular file is opened, or a link to one: to open a pipe
+        // waits for its other end. What takes the file's place between the
+        // look and the opening is not seen.
+        if !fs::metadata(name).ok()?.is_file() {
+            return None;
+        }
+        let file = File::open(name).ok()?;
         let mut text = Vec::new();
         file.take(most as u64).read_to_end(&mut text).ok()?;
         Some(text)

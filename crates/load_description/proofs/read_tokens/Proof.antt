@@ -6,40 +6,47 @@ use denote.Ref.{now}
 use Rattle.load_value.proofs.Scans.{word-fits}
 use Rattle.load_value.proofs.Writing.{puts-part}
 use Rattle.load_description.specs.Lines.{wordRead, tokensRead}
+use Rattle.load_description.proofs.Words.{single-read}
 use borrow.Author.Needs.{needs}
 use Rattle.load_description.proofs.read_tokens.Statement.{statement}
 use Rattle.load_description.proofs.read_tokens.Tie as tie
 
 returns : tie.Need-returns
 unfolding tokensRead
-returns c = rw (c .before .before .if1 .taken, c .if2 .taken)
+returns c = c .command-line .ensures ∙ rw (c .before .before .p .given .1)
 
 returns-2 : tie.Need-returns-2
-unfolding tokensRead
-returns-2 c = rw (c .before .before .if1 .taken, c .if2 .left)
+returns-2 c =
+    let at-part = c .before in
+    let at-word = at-part .before .before .before in
+    let at-test = at-word .before .before in
+    let at-property = at-test .before .before .before .before in
+    let a = at-property .before .before .before .args in
+    c .read-word-line .ensures
+    ∙ ap (λ (w : List ℕ). wordRead (now (a .text)) (a .d) (a .p) (a .at) (a .seen) w)
+    (at-part .part .ensures ∙ puts-part (word-fits (now (a .value))) (at-word .write-word .ensures))
+    ∙ rw (single-read (now (a .text)) (a .d) (a .p) (a .at) (a .seen) (a .sizes) (now (a .value)) (at-property .match .keys2), at-test .if1 .taken)
 
 returns-3 : tie.Need-returns-3
-unfolding tokensRead
 returns-3 c =
-    let a = c .before .before .before .before .before .before .before .before .before .before .before .before .before .args in
-    c .read-word-line .ensures
-    ∙ ap (λ (w : List ℕ). wordRead (now (a .text)) (a .d) (a .property) (a .at) (a .seen) w) (c .before .part .ensures ∙ puts-part (word-fits (now (a .value))) (c .before .before .before .before .write-word .ensures))
-    ∙ rw (c .before .before .before .before .before .before .before .before .before .before .if1 .left, c .before .before .before .before .before .before .if3 .taken)
-
-returns-4 : tie.Need-returns-4
-unfolding tokensRead
-returns-4 c = rw (c .before .before .before .before .if1 .left, c .if3 .left)
+    let at-test = c .before in
+    let at-property = at-test .before .before .before .before in
+    let a = at-property .before .before .before .args in
+    c .outside .ensures
+    ∙ rw (single-read (now (a .text)) (a .d) (a .p) (a .at) (a .seen) (a .sizes) (now (a .value)) (at-property .match .keys2), at-test .if1 .left)
 
 pub read-tokens-spec : {M : Type 1} → statement M
 read-tokens-spec =
     tie.close
     (tie.spec
+    (λ c. search needs)
+    (λ c κs. search needs)
     returns
+    (λ c. search needs)
+    (λ c κs. search needs)
+    (λ c. search needs)
+    (λ c κs. search needs)
+    (λ c κs. search needs)
     returns-2
-    (λ c. search needs)
     (λ c κs. search needs)
-    (λ c. search needs)
-    (λ c κs. search needs)
-    (λ c κs. search needs)
-    returns-3
-    returns-4)
+    returns-3)

@@ -1,5 +1,6 @@
 -- `refused_in` meets its contract.
 use borrow.Author.Needs.{needs}
+use mathlib.Core.Path.{_∙_}
 use Rattle.load_lent.proofs.refused_in.Statement.{statement}
 use Rattle.load_lent.proofs.refused_in.Tie as tie
 
@@ -7,7 +8,7 @@ returns : tie.Need-returns
 returns c = rw (c .line-number .ensures, c .before .if1 .taken)
 
 returns-2 : tie.Need-returns-2
-returns-2 c = rw (c .if1 .left)
+returns-2 c = c .bare .ensures ∙ rw (c .before .if1 .left)
 
 pub refused-in-spec : {M : Type 1} → statement M
-refused-in-spec = tie.close (tie.spec (λ c κs. search needs) returns returns-2)
+refused-in-spec = tie.close (tie.spec (λ c κs. search needs) returns (λ c κs. search needs) returns-2)

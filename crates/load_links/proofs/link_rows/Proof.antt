@@ -2,9 +2,10 @@
 use borrow.Author.Needs.{needs}
 use Prim.Native.Nat.{_-_}
 use mathlib.Core.Path.{refl}
-use Rattle.base.proofs.Filled.{Filling, filling-none, filling-more, filling-all}
+use Rattle.base.proofs.Filled.{Filling, filling-none, filling-all}
 use Rattle.service.specs.Limits.{maxServices}
 use Rattle.load_links.specs.Links.{linksAt}
+use Rattle.load_links.proofs.Cycles.{rows-more}
 use Rattle.load_links.proofs.link_rows.Statement.{statement}
 use Rattle.load_links.proofs.link_rows.Tie as tie
 
@@ -18,7 +19,7 @@ loop-holds : tie.Need-loop-holds Inv-loop μ-loop
 loop-holds c = filling-none (c .pre) refl
 
 loop-again : tie.Need-loop-again Inv-loop μ-loop
-loop-again c = search filling-more
+loop-again c = search rows-more
 
 returns : tie.Need-returns Inv-loop μ-loop
 returns c = search filling-all

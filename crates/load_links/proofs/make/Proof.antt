@@ -7,10 +7,10 @@ use Rattle.load_links.proofs.make.Statement.{statement}
 use Rattle.load_links.proofs.make.Tie as tie
 
 abbrev Inv-loop : tie.InvT-loop
-Inv-loop lent ends n ds services₀ j₀ services j = Made (nameAt lent ends) (textAt lent ends) ds n services₀ services j
+Inv-loop lent ends ds n services₀ j₀ services j = Made (nameAt lent ends) (textAt lent ends) ds n services₀ services j
 
 abbrev μ-loop : tie.MeasureT-loop
-μ-loop lent ends n ds services₀ j₀ services j = n - j
+μ-loop lent ends ds n services₀ j₀ services j = n - j
 
 loop-holds : tie.Need-loop-holds Inv-loop μ-loop
 loop-holds c = search made-none

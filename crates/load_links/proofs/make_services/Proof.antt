@@ -8,7 +8,7 @@ returns : tie.Need-returns
 returns c = services-in _ _ _ _ (c .before .before .default .ensures) (c .before .if1 .taken) (c .make .ensures)
 
 returns-2 : tie.Need-returns-2
-returns-2 c = services-many _ _ _ _ (c .before .default .ensures) (c .if1 .left)
+returns-2 c = services-many _ _ _ _ (c .before .before .default .ensures) (c .before .if1 .left) (c .bare .ensures)
 
 pub make-services-spec : {M : Type 1} → statement M
-make-services-spec = tie.close (tie.spec (λ c κs. search needs) (λ c κs. search needs) returns returns-2)
+make-services-spec = tie.close (tie.spec (λ c κs. search needs) (λ c κs. search needs) returns (λ c κs. search needs) returns-2)

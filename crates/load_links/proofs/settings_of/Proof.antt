@@ -1,29 +1,14 @@
--- `settings_of` meets its contract.
-use borrow.Author.Needs.{needs}
+-- `settings_of` meets its contract: three numbers are stored, and what is read back of the others is what they were.
+use Rattle.service.specs.Numbers.{settingsFrom}
+use Rattle.service.proofs.Numbering.{flag-back, kind-back, signal-back}
 use Rattle.load_links.proofs.settings_of.Statement.{statement}
 use Rattle.load_links.proofs.settings_of.Tie as tie
 
 returns : tie.Need-returns
+unfolding settingsFrom
 returns c =
-    let at-interval = c .before .before .before in
-    let at-stop = at-interval .before .before .before in
-    let at-signal = at-stop .before in
-    let at-kind = at-signal .before .before in
-    rw (at-signal .signal-at .ensures, at-kind .kind-from .ensures)
+    let v = c .before .args .d .settings in
+    simp (kind-back (v .kind) .0, signal-back (v .signal) .0, flag-back (v .restart), flag-back (v .«has_stop»))
 
 pub settings-of-spec : {M : Type 1} → statement M
-settings-of-spec =
-    tie.close
-    (tie.spec
-    (λ c. search needs)
-    (λ c κs. search needs)
-    (λ c. search needs)
-    (λ c κs. search needs)
-    (λ c. search needs)
-    (λ c. search needs)
-    (λ c. search needs)
-    (λ c. search needs)
-    (λ c. search needs)
-    (λ c. search needs)
-    (λ c. search needs)
-    returns)
+settings-of-spec = tie.close (tie.spec returns)

@@ -1,22 +1,23 @@
 -- `with_link` meets its contract.
-use borrow.Author.Tests.{ne-eqb}
 use Rattle.load_links.proofs.Laws.{one-link}
 use borrow.Author.Needs.{needs}
 use Rattle.load_links.proofs.with_link.Statement.{statement}
 use Rattle.load_links.proofs.with_link.Tie as tie
 
 returns : tie.Need-returns
-returns c = rw (one-link _ _ (c .before .before .before .pre) (c .before .before .single-of .ensures), c .before .if1 .taken)
+returns c =
+    let at-link = c .before .before .before in
+    rw (one-link _ _ (at-link .before .pre) (at-link .single-of .ensures), c .before .enum-told .given .1)
 
 returns-2 : tie.Need-returns-2
-returns-2 c = rw (one-link _ _ (c .before .before .before .before .pre) (c .before .before .before .single-of .ensures), c .before .if2 .taken)
+returns-2 c =
+    let at-link = c .before .before .before in
+    rw (one-link _ _ (at-link .before .pre) (at-link .single-of .ensures), c .before .enum-told2 .given .1)
 
 returns-3 : tie.Need-returns-3
 returns-3 c =
-    rw (one-link _ _ (c .before .before .before .before .before .pre) (c .before .before .before .before .single-of .ensures), c .before .if3 .taken)
-
-returns-4 : tie.Need-returns-4
-returns-4 c = rw (ne-eqb _ _ (c .before .before .if1 .left), ne-eqb _ _ (c .before .if2 .left), ne-eqb _ _ (c .if3 .left))
+    let at-link = c .before .before .before in
+    rw (one-link _ _ (at-link .before .pre) (at-link .single-of .ensures), c .before .enum-told3 .given .1)
 
 pub with-link-spec : {M : Type 1} → statement M
-with-link-spec = tie.close (tie.spec (λ c κs. search needs) returns returns-2 returns-3 returns-4)
+with-link-spec = tie.close (tie.spec (λ c κs. search needs) (λ c. search needs) (λ c. search needs) (λ c. search needs) returns returns-2 returns-3)

@@ -1,4 +1,5 @@
 -- `read_property` meets its contract: every offset is within the line.
+use mathlib.Core.Path.{sym, _∙_}
 use Rattle.load_description.specs.Lines.{propertyRead}
 use Rattle.load_reader.proofs.Properties.{seen-fits, fault-fits, tokens-told, fault-told}
 use borrow.Author.Needs.{needs}
@@ -7,7 +8,7 @@ use Rattle.load_reader.proofs.read_property.Tie as tie
 
 returns : tie.Need-returns
 unfolding propertyRead
-returns c = rw (c .if1 .taken)
+returns c = rw (sym (c .before .is-unknown .ensures) ∙ c .if1 .taken)
 
 add-seen : tie.Need-add-seen
 add-seen c = record { fits = search seen-fits }
@@ -26,6 +27,7 @@ read-property-spec =
     tie.close
     (tie.spec
     (λ c. search needs)
+    (λ c κs. search needs)
     returns
     (λ c. search needs)
     (λ c κs. search needs)

@@ -1,19 +1,21 @@
 -- `with_dependency` meets its contract: past the last place `set` changes nothing.
 use native.Mathlib.Omega.{arith}
-use mathlib.Core.Path.{_≡_, sym, _∙_}
+use mathlib.Core.Path.{_≡_}
 use Prim.Native.Nat.{_≤_}
-use lib.ListN.{length, length-map}
+use lib.ListN.{length}
 use lib.Seq.{set-out}
+use Rattle.base.proofs.Lists.{length-mapped}
 use borrow.Author.Needs.{needs}
 use Rattle.load_reader.proofs.with_dependency.Statement.{statement}
 use Rattle.load_reader.proofs.with_dependency.Tie as tie
 
 returns-2 : tie.Need-returns-2
 returns-2 c =
-    let d = c .before .args .d in
-    let n : length (d .dependencies) ≡ 16 = sym (length-map (d .dependencies) _) ∙ c .before .good .0 .1 .1 .1 .1 .0 .1 .0 .1 in
+    let a = c .before .args in
+    let d = a .d in
+    let n : length (d .dependencies) ≡ 16 = search (needs, length-mapped) in
     let o : length (d .dependencies) ≤ d .count = omega (arith, n) in
-    rw (set-out (d .dependencies) (d .count) (record { property = c .before .args .property; at = c .before .args .at }) o)
+    rw (set-out (d .dependencies) (d .count) (record { link = a .link; at = a .at }) o)
 
 pub with-dependency-spec : {M : Type 1} → statement M
 with-dependency-spec =

@@ -9,7 +9,7 @@ use Rattle.load_text.proofs.line_number.Tie as tie
 
 returns : tie.Need-returns
 unfolding lineNumber
-returns c = c .line-after .ensures ∙ ap (λ (l : List ℕ). lineFrom 1 l) (c .before .part .ensures)
+returns c = c .line-after .ensures ∙ ap (λ (l : List ℕ). lineFrom 1 l) (c .before .head .ensures)
 
 pub line-number-spec : {M : Type 1} → statement M
 line-number-spec = tie.close (tie.spec (λ c κs. search needs) (λ c κs. search needs) returns)

@@ -45,4 +45,4 @@ returns-4 c = (rw (c .before .before .if1 .left, c .if3 .left), tt)
 pub digit-spec : {M : Type 1} → statement M
 digit-spec =
     tie.close
-    (tie.spec mul-value sub-value add-value (λ c. search needs) returns returns-2 (λ c. search needs) returns-3 returns-4)
+    (tie.spec mul-value sub-value (λ c. search needs) add-value (λ c. search needs) returns returns-2 (λ c. search needs) returns-3 returns-4)

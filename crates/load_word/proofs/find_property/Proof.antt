@@ -1,62 +1,15 @@
--- `find_property` meets its contract: the place among the names that are left.
-use mathlib.Core.Path.{_≡_, refl, sym, ap, _∙_}
-use Prim.Native.Nat.{_≤_, _-_}
-use lib.ListN.{drop}
-use Rattle.load_text.specs.Strings.{same, indexFrom}
-use Rattle.load_word.specs.Properties.{propertyNames, propertyOf}
-use Rattle.load_text.proofs.Strings.{index-end, index-next, at-now}
+-- `find_property` meets its contract: the property at the place of its name.
 use borrow.Author.Needs.{needs}
+use Rattle.load_word.specs.Properties.{propertyNames, propertyOf}
+use Rattle.load_word.proofs.Words.{property-found, property-none}
 use Rattle.load_word.proofs.find_property.Statement.{statement}
 use Rattle.load_word.proofs.find_property.Tie as tie
 
-abbrev Inv-loop : tie.InvT-loop
-Inv-loop name names k₀ k = (k ≤ 14) × (indexFrom name 0 propertyNames ≡ indexFrom name k (drop k propertyNames))
+returns : tie.Need-returns
+returns c = property-found _ _ (c .before .before .find-place .ensures) (c .before .if1 .taken)
 
-abbrev μ-loop : tie.MeasureT-loop
-μ-loop name names k₀ k = 14 - k
-
-loop-holds : tie.Need-loop-holds Inv-loop μ-loop
-unfolding propertyNames
-loop-holds c = (search needs, refl)
-
-returns : tie.Need-returns Inv-loop μ-loop
-unfolding propertyOf propertyNames
-returns c = sym (c .before .before .before .before .loop .inv .1 ∙ index-next _ _ _ _ (c .before .before .before .loop-test .taken) (ap (same _) (rw (at-now, c .before .before .before .loop-test .taken)) ∙ sym (c .before .same-bytes .ensures) ∙ c .if1 .taken))
-
-loop-again : tie.Need-loop-again Inv-loop μ-loop
-unfolding propertyNames
-loop-again c = (search needs, c .before .before .before .before .loop .inv .1 ∙ index-next _ _ _ _ (c .before .before .before .loop-test .taken) (ap (same _) (rw (at-now, c .before .before .before .loop-test .taken)) ∙ sym (c .before .same-bytes .ensures) ∙ c .if1 .left))
-
-returns-2 : tie.Need-returns-2 Inv-loop μ-loop
-unfolding propertyOf propertyNames
-returns-2 c = sym (c .before .loop .inv .1 ∙ index-end _ _ _ _ (c .loop-test .left))
+returns-2 : tie.Need-returns-2
+returns-2 c = property-none _ (c .before .find-place .ensures) (c .if1 .left)
 
 pub find-property-spec : {M : Type 1} → statement M
-find-property-spec =
-    tie.close
-    (tie.spec
-    Inv-loop
-    μ-loop
-    (λ c. search needs)
-    (λ c. search needs)
-    (λ c. search needs)
-    (λ c. search needs)
-    (λ c. search needs)
-    (λ c. search needs)
-    (λ c. search needs)
-    (λ c. search needs)
-    (λ c. search needs)
-    (λ c. search needs)
-    (λ c. search needs)
-    (λ c. search needs)
-    (λ c. search needs)
-    (λ c. search needs)
-    loop-holds
-    (λ c. search needs)
-    (λ c. search needs)
-    (λ c κs. search needs)
-    returns
-    (λ c. search needs)
-    (λ c. search needs)
-    loop-again
-    returns-2)
+find-property-spec = tie.close (tie.spec (λ c κs. search needs) (λ c. search needs) (λ c. search needs) returns returns-2)

@@ -10,7 +10,7 @@ unfolding kindOf
 returns c =
     let at-test = c .before in
     let at-process = at-test .before in
-    rw (sym (at-process .same-bytes .ensures) ∙ at-test .if1 .taken, c .kind-value .ensures)
+    rw (sym (at-process .same-bytes .ensures) ∙ at-test .if1 .taken, c .kind-number .ensures)
 
 returns-2 : tie.Need-returns-2
 unfolding kindOf
@@ -22,7 +22,7 @@ returns-2 c =
     rw (
       sym (at-process .same-bytes .ensures) ∙ at-first .if1 .left,
       sym (at-scripted .same-bytes2 .ensures) ∙ at-second .if2 .taken,
-      c .kind-value2 .ensures,
+      c .kind-number2 .ensures,
     )
 
 returns-3 : tie.Need-returns-3
@@ -38,7 +38,7 @@ returns-3 c =
       sym (at-process .same-bytes .ensures) ∙ at-first .if1 .left,
       sym (at-scripted .same-bytes2 .ensures) ∙ at-second .if2 .left,
       sym (at-internal .same-bytes3 .ensures) ∙ at-third .if3 .taken,
-      c .kind-value3 .ensures,
+      c .kind-number3 .ensures,
     )
 
 returns-4 : tie.Need-returns-4

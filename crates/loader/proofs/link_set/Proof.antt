@@ -5,10 +5,10 @@ use Rattle.loader.proofs.link_set.Statement.{statement}
 use Rattle.loader.proofs.link_set.Tie as tie
 
 returns : tie.Need-returns
-returns c = linked-not _ _ _ _ _ (c .before .before .before .before .before .before .before .pre .0) (c .before .before .before .make-services .ensures) (c .before .enum-told2 .given .1) (c .refuse .ensures)
+returns c = search linked-not
 
 returns-2 : tie.Need-returns-2
-returns-2 c = linked-on _ _ _ _ _ (c .before .before .before .before .before .before .before .before .before .before .before .pre .0) (c .before .before .before .before .before .before .before .make-services .ensures) (c .before .before .before .before .before .enum-told .given .1) (c .before .before .store-acyclic .ensures)
+returns-2 c = search linked-on
 
 pub link-set-spec : {M : Type 1} → statement M
 link-set-spec =

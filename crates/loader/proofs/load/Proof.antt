@@ -5,13 +5,13 @@ use Rattle.loader.proofs.load.Statement.{statement}
 use Rattle.loader.proofs.load.Tie as tie
 
 returns : tie.Need-returns
-returns c = load-on _ _ _ (c .before .before .before .before .before .before .if1 .taken) (c .before .before .before .before .before .is-positioned .ensures) (c .before .before .before .before .if2 .taken) (c .before .before .load-set .ensures)
+returns c = search load-on
 
 returns-2 : tie.Need-returns-2
-returns-2 c = load-placed _ _ _ (c .before .before .before .if1 .taken) (c .before .before .is-positioned .ensures) (c .before .if2 .left) (c .refuse .ensures)
+returns-2 c = search load-placed
 
 returns-3 : tie.Need-returns-3
-returns-3 c = load-many _ _ _ (c .before .if1 .left) (c .refuse2 .ensures)
+returns-3 c = search load-many
 
 pub load-spec : {M : Type 1} → statement M
 load-spec =
@@ -22,6 +22,8 @@ load-spec =
     (λ c. search needs)
     returns
     (λ c κs. search needs)
+    (λ c κs. search needs)
     returns-2
+    (λ c κs. search needs)
     (λ c κs. search needs)
     returns-3)

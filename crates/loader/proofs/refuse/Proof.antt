@@ -1,7 +1,7 @@
 -- `refuse` meets its contract.
 use mathlib.Core.Path.{ap}
 use Rattle.service.specs.declared.Table.{Table}
-use Rattle.load_tokens.specs.Tokens.{noCommands}
+use Rattle.loader.specs.Tokens.{noCommands}
 use borrow.Author.Needs.{needs}
 use Rattle.loader.proofs.refuse.Statement.{statement}
 use Rattle.loader.proofs.refuse.Tie as tie

@@ -1,11 +1,14 @@
 -- `write_table` meets its contract: what stands in front is put, and then the numbers of the places below s.
 use borrow.Author.Needs.{needs}
 use Prim.Native.Nat.{_-_}
+use mathlib.Core.Path.{_≡_}
+use lib.ListN.{length}
+use Rattle.base.proofs.Lists.{length-mapped}
 use Rattle.service.specs.Limits.{maxServices}
 use Rattle.service.specs.Settings.{settingsAt}
 use Rattle.service.specs.Numbers.{settingsNumbers}
 use Rattle.plain_encoding.specs.Numbers.{tableNumbers}
-use Rattle.plain_encoding.proofs.Laws.{Writing, writing-none, writing-more, writing-all}
+use Rattle.plain_encoding.proofs.Laws.{Writing, writing-none, writing-all, table-more}
 use Rattle.plain_encoding.proofs.write_table.Statement.{statement}
 use Rattle.plain_encoding.proofs.write_table.Tie as tie
 
@@ -19,8 +22,13 @@ loop-holds : tie.Need-loop-holds Inv-loop μ-loop
 loop-holds c = writing-none
 
 loop-again : tie.Need-loop-again Inv-loop μ-loop
-unfolding settingsAt
-loop-again c = search writing-more
+loop-again c =
+    let at-settings = c .before .before in
+    let at-turn = at-settings .before .before in
+    let at-start = at-turn .before .before in
+    let t = at-start .args .t2 in
+    let n : length (t .services) ≡ maxServices = search (needs, length-mapped) in
+    table-more t _ n (at-turn .before .loop .inv) (at-turn .loop-test .taken) (at-settings .settings-numbers .ensures) (c .put .ensures)
 
 returns : tie.Need-returns Inv-loop μ-loop
 unfolding tableNumbers

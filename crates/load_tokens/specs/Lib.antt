@@ -1,2 +1,0 @@
--- The definitions, each file after those that it cites.
-pub mod Tokens
