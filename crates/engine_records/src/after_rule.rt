@@ -4,8 +4,6 @@ use crate::settling::settle;
 use engine_record_tests::is_starting;
 use engine_record_tests::is_user;
 use engine_record_tests::is_waiting;
-use engine_settling::is_sound;
-use engine_settling::settle;
 use rules::Rule;
 use service::Cause;
 use service::Deadline;

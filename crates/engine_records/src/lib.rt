@@ -1,4 +1,4 @@
-// What becomes of one service's record: by an event, and by each rule.
+// What becomes of one service's record: by an event, by each rule, and by settling, which both come to.
 mod after_event;
 mod after_rule;
 mod settling;

@@ -65,7 +65,7 @@ fn next_count(stays: bool, n: u64) -> u64
 }
 
 // As many restarts have been counted in the window as the limit allows.
-pub(crate) fn limit_reached(v: Settings, now: u64, r: Record) -> bool
+fn limit_reached(v: Settings, now: u64, r: Record) -> bool
     ensures { λ b. ⌜ b ≡ limitReached v now r ⌝ }
 {
     let over = is_window_over(v, now, r);
@@ -89,7 +89,7 @@ fn count_sound(v: Settings, now: u64, r: Record) -> Record
 
 // The record with a fall counted: its window, the count in it and the time before which it is not launched again. A record whose times
 // are out of range is left as it is.
-pub(crate) fn count_fall(v: Settings, now: u64, r: Record) -> Record
+fn count_fall(v: Settings, now: u64, r: Record) -> Record
     ensures { λ q. ⌜ q ≡ pick (sound v now r) (fallCounted v now r) r ⌝ }
 {
     if is_sound(v, now, r) {
