@@ -1,4 +1,4 @@
--- Tests, searches and sums over the numbers below a bound. Each goes from 0 up, as a loop that counts up does.
+-- Trusted: tests, searches and sums over the numbers below a bound. Each goes from 0 up, as a loop that counts up does.
 use Prim.Native.Nat.{ℕ, zero, suc, _+_}
 use mathlib.Core.Bool.{Bool, true, false, _&&_, _||_}
 use mathlib.Core.List.{List, [], _∷_}

@@ -1,4 +1,4 @@
--- Links between numbers: d i is the set that i is linked to. What a number reaches: by a path, and computed in rounds.
+-- Trusted: links between numbers: d i is the set that i is linked to. What a number reaches: by a path, and computed in rounds.
 use Prim.Native.Nat.{ℕ, zero, suc}
 use mathlib.Core.Path.{_≡_}
 use mathlib.Core.Bool.{Bool, true}

@@ -1,4 +1,4 @@
--- A set of numbers is a number: i is in it where its bit i is 1.
+-- Trusted: a set of numbers is a number: i is in it where its bit i is 1.
 use Prim.Native.Nat.{ℕ, _/_, _%_, _^_}
 use mathlib.Core.Bool.{Bool, not}
 use lib.Dec.{eqb}

@@ -1,4 +1,4 @@
--- A run: the room it wants, what it gives back and leaves, and that a run to quiet has come to quiet within its room.
+-- Of the code: a run: the room it wants, what it gives back and leaves, and that a run to quiet has come to quiet within its room.
 use Prim.Native.Nat.{ℕ, _*_, _≤_}
 use mathlib.Core.Path.{_≡_}
 use mathlib.Core.Bool.{Bool, true, _&&_}

@@ -1,4 +1,4 @@
--- For each rule the set of services that it fits, and the choice from those sets.
+-- Of the code: for each rule the set of services that it fits, and the choice from those sets.
 use Prim.Native.Nat.{ℕ}
 use mathlib.Core.Bool.{_&&_}
 use lib.Bits.{bitOr}

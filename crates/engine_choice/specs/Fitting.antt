@@ -1,4 +1,4 @@
--- The tests of the rules on one service, from its settings, its record and where the services stand.
+-- Of the code: the tests of the rules on one service, from its settings, its record and where the services stand.
 use Prim.Native.Nat.{ℕ}
 use mathlib.Core.Bool.{Bool, not, _&&_, _||_}
 use lib.Dec.{leb}

@@ -1,4 +1,4 @@
--- What rule 1 reads its cause from.
+-- Of the code: what rule 1 reads its cause from.
 use Prim.Native.Nat.{ℕ}
 use mathlib.Core.Bool.{not, _&&_}
 use Rattle.base.specs.Sets.{marked}

@@ -1,4 +1,4 @@
--- Where the services stand, as sets that one pass over them gathers.
+-- Of the code: where the services stand, as sets that one pass over them gathers.
 use Prim.Native.Nat.{ℕ}
 use mathlib.Core.Bool.{not, _&&_, _||_}
 use lib.Bits.{bitOr}

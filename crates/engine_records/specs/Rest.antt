@@ -1,4 +1,4 @@
--- The parts of a settled record: a record at rest, and one with a fall counted.
+-- Of the code: the parts of a settled record: a record at rest, and one with a fall counted.
 use Prim.Native.Nat.{ℕ}
 use mathlib.Core.Bool.{Bool, false}
 use Rattle.service.specs.declared.Phase.the-variants.{Down}

@@ -1,4 +1,5 @@
--- What list 24 says of the clock, and of the settings and times of one service: under it no sum of settling or of a deadline passes 64 bits.
+-- Of the code: what list 24 says of the clock, and of the settings and times of one service: under it no sum of settling or of a deadline passes 64
+-- bits.
 use Prim.Native.Nat.{ℕ, _≤_}
 use mathlib.Core.Bool.{Bool, _&&_}
 use lib.Dec.{leb}

@@ -1,2 +1,2 @@
--- The definitions, each file after those that it cites.
+-- Of the code: the definitions, each file after those that it cites.
 pub mod Place

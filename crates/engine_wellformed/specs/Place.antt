@@ -1,4 +1,4 @@
--- List 24 at one service: its settings' part and its record's.
+-- Of the code: List 24 at one service: its settings' part and its record's.
 use Prim.Native.Nat.{ℕ}
 use mathlib.Core.Bool.{Bool, _&&_}
 use Rattle.service.specs.declared.Settings.{Settings}

@@ -1,4 +1,4 @@
--- Demand 3 over every list of calls from the fresh state of a loaded set.
+-- Trusted: Demand 3 over every list of calls from the fresh state of a loaded set.
 use Prim.Native.Nat.{ℕ}
 use mathlib.Core.Bool.{true}
 use mathlib.Core.List.{List}

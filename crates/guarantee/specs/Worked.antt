@@ -1,4 +1,4 @@
--- "Reader and averager, on both sides": the worked examples that paper 01 marks P, one table and one statement.
+-- Trusted: "Reader and averager, on both sides": the worked examples that paper 01 marks P, one table and one statement.
 use Prim.Native.Nat.{ℕ}
 use Prim.Native.String.{String}
 use mathlib.Core.List.{List, [], _++_, _∷_}

@@ -1,4 +1,4 @@
--- The descent: who joins its set, and what is then safe, which is to be on no cycle.
+-- Of the code: the descent: who joins its set, and what is then safe, which is to be on no cycle.
 use Prim.Native.Nat.{ℕ, _<_}
 use mathlib.Core.Path.{_≡_}
 use mathlib.Core.Bool.{Bool, true}

@@ -1,4 +1,4 @@
--- Links held as rows of an array.
+-- Of the code: links held as rows of an array.
 use Prim.Native.Nat.{ℕ}
 use mathlib.Core.List.{List}
 use lib.ListN.{getD}

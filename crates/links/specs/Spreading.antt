@@ -1,4 +1,4 @@
--- One pass over a set of numbers: each that is in it brings in what it is linked to.
+-- Of the code: one pass over a set of numbers: each that is in it brings in what it is linked to.
 use Prim.Native.Nat.{ℕ}
 use mathlib.Core.List.{List}
 use Rattle.base.specs.Folds.{fold}

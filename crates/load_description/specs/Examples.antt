@@ -1,4 +1,4 @@
--- Readings of whole descriptions: which line and which byte decides, and with which number. One table, one statement.
+-- Of the code: readings of whole descriptions: which line and which byte decides, and with which number. One table, one statement.
 use Prim.Native.Nat.{ℕ}
 use Prim.Native.String.{String}
 use mathlib.Core.Path.{_≡_, refl}

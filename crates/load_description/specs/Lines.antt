@@ -1,4 +1,4 @@
--- "In a line: 7 for name and sign; 10; value from left (7, 9, at its end 8); 11; 12."
+-- Trusted: "In a line: 7 for name and sign; 10; value from left (7, 9, at its end 8); 11; 12."
 use Prim.Native.Nat.{ℕ, _+_}
 use mathlib.Core.Bool.{Bool, true, false}
 use mathlib.Core.List.{List}

@@ -1,4 +1,4 @@
--- What is read of one description: nothing yet, what a line does to it, and whether a dependency is among those that it has.
+-- Trusted: what is read of one description: nothing yet, what a line does to it, and whether a dependency is among those that it has.
 use Prim.Native.Nat.{ℕ, _+_}
 use mathlib.Core.Bool.{Bool, _&&_, true, false}
 use mathlib.Core.List.{List}

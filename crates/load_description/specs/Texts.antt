@@ -1,4 +1,4 @@
--- "each text in turn: 6 over the whole text, its lines, 13, 14"
+-- Trusted: "each text in turn: 6 over the whole text, its lines, 13, 14"
 use Prim.Native.Nat.{ℕ, _+_}
 use mathlib.Core.Bool.{Bool, _&&_, not, true, false}
 use mathlib.Core.List.{List, [], _∷_}

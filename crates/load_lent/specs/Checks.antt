@@ -1,4 +1,4 @@
--- The names (3, 4) and the sizes (5) of a set, whose names and texts are given by service.
+-- Trusted: the names (3, 4) and the sizes (5) of a set, whose names and texts are given by service.
 use Prim.Native.Nat.{ℕ, zero, suc, _+_}
 use mathlib.Core.Bool.{_||_}
 use mathlib.Core.List.{List}

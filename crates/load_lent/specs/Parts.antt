@@ -1,4 +1,4 @@
--- The lent bytes and positions: "for each service its name's end, then its text's". Numbers 1 and 2.
+-- Trusted: the lent bytes and positions: "for each service its name's end, then its text's". Numbers 1 and 2.
 use Prim.Native.Nat.{ℕ, _+_, _-_, _*_, _/_, _%_}
 use mathlib.Core.Bool.{Bool, _&&_}
 use mathlib.Core.List.{List, [], _∷_}

@@ -1,4 +1,4 @@
--- A refusal as the load answers it: bare, or a fault met in the text of a service, with its line where it has one.
+-- Trusted: a refusal as the load answers it: bare, or a fault met in the text of a service, with its line where it has one.
 use Prim.Native.Nat.{ℕ}
 use lib.Dec.{eqb, leb}
 use mathlib.Core.Bool.{Bool, _&&_, _||_}

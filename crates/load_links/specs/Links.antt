@@ -1,5 +1,5 @@
--- The dependencies of a set as sets of services: 15 "a dependency on a service not in the set", "by service and line";
--- 16 "the three kinds together have a cycle". With them the settings of each service.
+-- Trusted: the dependencies of a set as sets of services: 15 "a dependency on a service not in the set", "by service and line"; 16 "the three kinds
+-- together have a cycle". With them the settings of each service.
 use Prim.Native.Nat.{_+_, _^_, suc, zero, ℕ}
 use lib.Bits.{bitOr}
 use lib.Dec.{leb, ltb}

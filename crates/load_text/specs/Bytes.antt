@@ -1,4 +1,4 @@
--- "Reading a text": the classes of bytes, and the run of bytes of a class.
+-- Trusted: "Reading a text": the classes of bytes, and the run of bytes of a class.
 use Prim.Native.Nat.{ℕ, suc}
 use mathlib.Core.Bool.{Bool, _||_, _&&_}
 use mathlib.Core.List.{List, [], _∷_}

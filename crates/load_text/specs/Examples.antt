@@ -1,4 +1,4 @@
--- The line of an offset: before a newline, at it, after it, at the text's end and past it.
+-- Of the code: the line of an offset: before a newline, at it, after it, at the text's end and past it.
 use Prim.Native.Nat.{ℕ}
 use mathlib.Core.Path.{_≡_, refl}
 use mathlib.Core.List.{List, [], _∷_, map}

@@ -1,4 +1,4 @@
--- "Reading a text": the lines, how a line begins, the first bad byte, and the line of an offset.
+-- Trusted: "Reading a text": the lines, how a line begins, the first bad byte, and the line of an offset.
 use Prim.Native.Nat.{ℕ, _+_}
 use mathlib.Core.Bool.{Bool, _||_}
 use mathlib.Core.List.{List, [], _∷_}

@@ -1,4 +1,4 @@
--- Byte strings: the bytes of a text in quotes, equality as a test, the place among a list of strings, a part.
+-- Trusted: byte strings: the bytes of a text in quotes, equality as a test, the place among a list of strings, a part.
 use Prim.Native.Nat.{ℕ, _+_, _-_}
 use Prim.Native.Char.{code}
 use Prim.Native.String.{String, [] as end, _∷_ as then}

@@ -1,4 +1,4 @@
--- "Value": what each byte of a value does, by where the reader is.
+-- Trusted: "Value": what each byte of a value does, by where the reader is.
 use Prim.Native.Nat.{ℕ}
 use mathlib.Core.Bool.{Bool, true, false}
 use lib.Dec.{eqb}

@@ -1,4 +1,4 @@
--- Bytes stored into a lent buffer. What does not fit is dropped; the place goes on all the same.
+-- Of the code: bytes stored into a lent buffer. What does not fit is dropped; the place goes on all the same.
 use mathlib.Core.Path.{_≡_}
 use mathlib.Core.List.{List}
 use Prim.Native.Nat.{ℕ, _+_}

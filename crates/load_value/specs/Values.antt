@@ -1,4 +1,4 @@
--- "Value", "Commands are lists of tokens": the first fault of a value, its tokens, and what is told of them.
+-- Trusted: "Value", "Commands are lists of tokens": the first fault of a value, its tokens, and what is told of them.
 use Prim.Native.Nat.{ℕ, zero, suc, _+_, _-_}
 use mathlib.Core.Bool.{Bool, _&&_}
 use mathlib.Core.List.{List, [], _∷_, map}

@@ -1,4 +1,4 @@
--- "Times" and "Limit count": decimal numbers as they are written.
+-- Trusted: "Times" and "Limit count": decimal numbers as they are written.
 use Prim.Native.Nat.{ℕ, _+_, _-_, _*_, _^_, _≤_, _<_}
 use mathlib.Core.Bool.{true, false, _||_, _&&_, not}
 use mathlib.Core.List.{List, [], _∷_}

@@ -1,5 +1,5 @@
--- The 14 properties of paper 01 in its order: each with its name, and with what its value is. The rules of those whose value is a word that the
--- settings hold.
+-- Trusted: the 14 properties of paper 01 in its order: each with its name, and with what its value is. The rules of those whose value is a word that
+-- the settings hold.
 use Prim.Native.Nat.{ℕ}
 use Prim.Native.String.{String}
 use mathlib.Core.Bool.{Bool, true, false}

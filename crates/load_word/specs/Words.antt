@@ -1,4 +1,4 @@
--- "Yes or no", types and signals, and names of services (number 3).
+-- Trusted: "Yes or no", types and signals, and names of services (number 3).
 use Prim.Native.Nat.{ℕ, zero, suc, _+_}
 use Prim.Native.String.{String}
 use mathlib.Core.Bool.{Bool, true, false, _&&_}

@@ -1,4 +1,4 @@
--- The pair of paper 01 loaded, and a case for each number that refuses a load.
+-- Of the code: the pair of paper 01 loaded, and a case for each number that refuses a load.
 use Prim.Native.Nat.{ℕ, _+_}
 use Prim.Native.String.{String}
 use mathlib.Core.Path.{_≡_, refl}

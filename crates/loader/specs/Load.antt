@@ -1,5 +1,4 @@
--- The load, whole: "Order: 1; 2; all names, 3 then 4 each; all texts, 5; then each text in turn ..; then 15 by service
--- and line; 16; 25."
+-- Trusted: the load, whole: "Order: 1; 2; all names, 3 then 4 each; all texts, 5; then each text in turn ..; then 15 by service and line; 16; 25."
 use Prim.Native.Nat.{ℕ}
 use mathlib.Core.Bool.{Bool}
 use mathlib.Core.List.{List}

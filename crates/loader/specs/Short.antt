@@ -1,4 +1,4 @@
--- What 5 leaves of the texts: none "passes 4,096 bytes", and so the tokens of a service's two commands have a bound.
+-- Of the code: what 5 leaves of the texts: none "passes 4,096 bytes", and so the tokens of a service's two commands have a bound.
 use Prim.Native.Nat.{ℕ, _+_, _*_, _<_, _≤_}
 use mathlib.Core.List.{List}
 use lib.ListN.{length}

@@ -1,4 +1,4 @@
--- "then each text in turn": the descriptions of a set, or the first fault with its service and line.
+-- Trusted: "then each text in turn": the descriptions of a set, or the first fault with its service and line.
 use Prim.Native.Nat.{_+_, suc, zero, ℕ}
 use lib.ListN.{replicate, set}
 use mathlib.Core.List.{List}

@@ -1,5 +1,5 @@
--- "The tokens of the standing commands, unused ones too, go to a lent buffer from its start, by service, command before
--- stop-command, each followed by a zero byte".
+-- Trusted: "The tokens of the standing commands, unused ones too, go to a lent buffer from its start, by service, command before stop-command, each
+-- followed by a zero byte".
 use Prim.Native.Nat.{ℕ, zero, suc, _+_}
 use mathlib.Core.List.{List, [], _++_}
 use lib.Dec.{eqb}

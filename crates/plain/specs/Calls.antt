@@ -1,4 +1,4 @@
--- The calls over a table and a state in numbers, and their answers as numbers.
+-- Trusted: the calls over a table and a state in numbers, and their answers as numbers.
 use Prim.Native.Nat.{ℕ}
 use mathlib.Core.Bool.{Bool, _&&_, false}
 use mathlib.Core.List.{List}

@@ -1,5 +1,5 @@
--- Numbers in and out, computed: the pair of paper 01 and the fresh state as numbers, a start, a refusal, the next action, quiet and a query;
--- and numbers that stand for nothing.
+-- Of the code: numbers in and out, computed: the pair of paper 01 and the fresh state as numbers, a start, a refusal, the next action, quiet and a
+-- query; and numbers that stand for nothing.
 use Prim.Native.Nat.{ℕ, _+_, _-_, _*_}
 use mathlib.Core.Bool.{true, false}
 use mathlib.Core.List.{List, [], _∷_, _++_}

@@ -1,4 +1,4 @@
--- The load's answer as numbers, and what it leaves in the numbers of the table, of the state and of the token counts.
+-- Trusted: the load's answer as numbers, and what it leaves in the numbers of the table, of the state and of the token counts.
 use Prim.Native.Nat.{ℕ, _+_, _*_}
 use mathlib.Core.Bool.{Bool, true, false}
 use mathlib.Core.List.{List}

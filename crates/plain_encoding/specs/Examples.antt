@@ -1,5 +1,5 @@
--- Numbers computed: of the fresh state, of a record with a deadline, and of the default settings; each read back. And numbers that stand for
--- nothing.
+-- Of the code: numbers computed: of the fresh state, of a record with a deadline, and of the default settings; each read back. And numbers that stand
+-- for nothing.
 use Prim.Native.Nat.{_+_, _-_}
 use mathlib.Core.Bool.{true, false}
 use mathlib.Core.List.{[], _∷_}

@@ -1,6 +1,6 @@
--- The numbers that stand for a table or a state: those that are written of the table or the state that they say. All others stand for nothing: a
--- type, signal, phase or cause past the last of its list, a flag that is neither 0 nor 1, a deadline's time where there is no deadline, and a
--- number other than 0 where none is used.
+-- Trusted: the numbers that stand for a table or a state: those that are written of the table or the state that they say. All others stand for
+-- nothing: a type, signal, phase or cause past the last of its list, a flag that is neither 0 nor 1, a deadline's time where there is no deadline,
+-- and a number other than 0 where none is used.
 use Prim.Native.Nat.{ℕ, _+_}
 use mathlib.Core.Bool.{Bool, _&&_}
 use mathlib.Core.List.{List}

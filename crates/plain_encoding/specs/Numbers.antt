@@ -1,4 +1,4 @@
--- A table and a state as numbers, and back: two in front, and then sixteen for each place.
+-- Trusted: a table and a state as numbers, and back: two in front, and then sixteen for each place.
 use Prim.Native.Nat.{ℕ, _+_, _*_}
 use mathlib.Core.List.{List, [], _∷_}
 use lib.ListN.{getD, set, replicate}

@@ -1,4 +1,4 @@
--- Deadlines by number, and back.
+-- Trusted: deadlines by number, and back.
 use Prim.Native.Nat.{ℕ}
 use mathlib.Core.Bool.{Bool, true, false}
 use Rattle.base.specs.Folds.{pick}

@@ -1,4 +1,4 @@
--- The calls: what each gives back, its refusals in the order of checks, and the state after a list of them.
+-- Trusted: the calls: what each gives back, its refusals in the order of checks, and the state after a list of them.
 use Prim.Native.Nat.{ℕ, _*_}
 use mathlib.Core.Bool.{Bool, _&&_}
 use mathlib.Core.List.{List, [], _∷_}

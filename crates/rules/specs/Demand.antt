@@ -1,4 +1,4 @@
--- Demand 3, one statement over every list of calls. What it rests on is listed at the end of this file.
+-- Trusted: Demand 3, one statement over every list of calls. What it rests on is listed at the end of this file.
 use Prim.Native.Nat.{ℕ, suc, _+_, _*_, _≤_, _<_}
 use mathlib.Core.Logic.{_≢_}
 use mathlib.Core.Path.{_≡_}

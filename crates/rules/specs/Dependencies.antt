@@ -1,4 +1,4 @@
--- "The service record": who depends on whom, and what a service's record says to the others.
+-- Trusted: "The service record": who depends on whom, and what a service's record says to the others.
 use Prim.Native.Nat.{ℕ}
 use mathlib.Core.Bool.{Bool, not, _&&_, _||_}
 use Rattle.base.specs.Folds.{some}

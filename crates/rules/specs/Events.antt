@@ -1,4 +1,4 @@
--- "Events": what an accepted start, stop, stop all, end and clock reading make of the state.
+-- Trusted: "Events": what an accepted start, stop, stop all, end and clock reading make of the state.
 use Prim.Native.Nat.{ℕ}
 use mathlib.Core.Bool.{Bool, true, false, not, _&&_, _||_}
 use lib.Dec.{eqb}

@@ -1,4 +1,4 @@
--- Further cases computed over the definitions, in one table with one statement: the lone reader's falls, what a user's stop does to
+-- Of the code: further cases computed over the definitions, in one table with one statement: the lone reader's falls, what a user's stop does to
 -- those above, the refusals in the order of checks, the query; and a run with its lent places.
 use Prim.Native.Nat.{ℕ}
 use mathlib.Core.Bool.{false, true}

@@ -1,4 +1,4 @@
--- "Readings that look right and are wrong": for each a case that the wrong reading fails. One table, one statement.
+-- Of the code: "Readings that look right and are wrong": for each a case that the wrong reading fails. One table, one statement.
 use Prim.Native.Nat.{ℕ}
 use mathlib.Core.Bool.{false, true}
 use mathlib.Core.List.{List, [], _∷_}

@@ -1,4 +1,4 @@
--- "Next action": rules 1 to 8. Each is three functions: whom it fits, the record it leaves, and what it hands out.
+-- Trusted: "Next action": rules 1 to 8. Each is three functions: whom it fits, the record it leaves, and what it hands out.
 use Prim.Native.Nat.{ℕ, _+_}
 use mathlib.Core.Bool.{Bool, true, false, not, _&&_, _||_}
 use mathlib.Core.List.{List, [], _∷_}

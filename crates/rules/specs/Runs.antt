@@ -1,4 +1,4 @@
--- A run to quiet, and the query.
+-- Trusted: a run to quiet, and the query.
 use Prim.Native.Nat.{ℕ, _*_}
 use mathlib.Core.List.{List}
 use lib.Dec.{leb, ltb}

@@ -1,4 +1,4 @@
--- "Settle": the record of a service that has ended, by its cause, with the restart window, limit and delay.
+-- Trusted: "Settle": the record of a service that has ended, by its cause, with the restart window, limit and delay.
 use Prim.Native.Nat.{ℕ, suc, _+_, _-_}
 use mathlib.Core.Bool.{Bool, true, false, not, _&&_, _||_}
 use lib.Dec.{leb, eqb}

@@ -1,4 +1,4 @@
--- List 24: when a table and a state are well formed. Records past the last service are not read.
+-- Trusted: List 24: when a table and a state are well formed. Records past the last service are not read.
 use Prim.Native.Nat.{ℕ}
 use mathlib.Core.Bool.{Bool, true, not, _&&_}
 use lib.Dec.{leb}

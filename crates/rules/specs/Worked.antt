@@ -1,4 +1,4 @@
--- "Reader and averager, on both sides": the pair, with the calls and answers that paper 01 marks P. The statement over all that is so
+-- Trusted: "Reader and averager, on both sides": the pair, with the calls and answers that paper 01 marks P. The statement over all that is so
 -- marked, times and values too, stands in the crate `guarantee`.
 use Prim.Native.Nat.{_-_}
 use lib.ListN.{length, replicate}

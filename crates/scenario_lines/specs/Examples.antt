@@ -1,5 +1,4 @@
--- The forms are as many as said, and stand where it is said; worked examples of lines, in one table with one
--- statement.
+-- Of the code: the forms are as many as said, and stand where it is said; worked examples of lines, in one table with one statement.
 use Prim.Native.Nat.{ℕ, _+_}
 use Prim.Native.String.{String}
 use mathlib.Core.Bool.{Bool, true, false}

@@ -1,4 +1,4 @@
--- What a line of a scenario may be, as forms, and how a line fits one.
+-- Of the code: what a line of a scenario may be, as forms, and how a line fits one.
 use Prim.Native.Nat.{ℕ, _-_}
 use Prim.Native.String.{String}
 use mathlib.Core.Bool.{Bool, _&&_}

@@ -1,4 +1,4 @@
--- A line of a scenario, read to what it asks for.
+-- Of the code: a line of a scenario, read to what it asks for.
 use Prim.Native.Nat.{ℕ, _+_, _-_, _*_}
 use mathlib.Core.Bool.{Bool, true, _&&_, _||_}
 use mathlib.Core.List.{List, []}

@@ -1,4 +1,4 @@
--- The texts by their places, and answers computed: of next actions, of queries and of loads.
+-- Of the code: the texts by their places, and answers computed: of next actions, of queries and of loads.
 use mathlib.Core.Bool.{true, false}
 use mathlib.Core.Path.{_≡_, refl}
 use mathlib.Core.List.{[], _∷_, map}

@@ -1,4 +1,4 @@
--- Which text, with which numbers, an answer is.
+-- Of the code: which text, with which numbers, an answer is.
 use Prim.Native.Nat.{ℕ, _-_}
 use lib.Dec.{eqb, ltb}
 use Rattle.base.specs.Folds.{pick}

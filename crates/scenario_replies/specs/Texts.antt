@@ -1,4 +1,4 @@
--- The texts of the answers, and the lists of names.
+-- Of the code: the texts of the answers, and the lists of names.
 use Prim.Native.Nat.{ℕ}
 use mathlib.Core.List.{List, [], _∷_, _++_, map}
 use Rattle.load_text.specs.Strings.{bytes, same, indexFrom}

@@ -1,4 +1,4 @@
--- A service given line by line into a small buffer, and the positions that a load then lends.
+-- Of the code: a service given line by line into a small buffer, and the positions that a load then lends.
 use Prim.Native.Nat.{ℕ, _+_}
 use Prim.Native.String.{String}
 use mathlib.Core.List.{List, [], _∷_, _++_}

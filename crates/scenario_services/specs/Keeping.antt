@@ -1,4 +1,4 @@
--- What is kept of the services that a scenario gives: their names and texts one after the other, and where each ends.
+-- Of the code: what is kept of the services that a scenario gives: their names and texts one after the other, and where each ends.
 use Prim.Native.Nat.{ℕ, _+_, _-_, _*_}
 use mathlib.Core.Bool.{_&&_}
 use mathlib.Core.List.{List}

@@ -1,4 +1,4 @@
--- The positions that a load lends: those that its line gives, or where the names and texts given so far end.
+-- Of the code: the positions that a load lends: those that its line gives, or where the names and texts given so far end.
 use Prim.Native.Nat.{ℕ, _+_, _*_}
 use mathlib.Core.List.{List, []}
 use lib.Dec.{eqb, ltb}

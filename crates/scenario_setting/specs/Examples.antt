@@ -1,4 +1,4 @@
--- Numbers computed after lines that set one.
+-- Of the code: numbers computed after lines that set one.
 use Prim.Native.Nat.{ℕ, _+_}
 use mathlib.Core.List.{List}
 use mathlib.Core.Path.{_≡_, refl}

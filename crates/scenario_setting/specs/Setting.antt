@@ -1,4 +1,4 @@
--- The numbers of a table and of a state after a line of a scenario that sets one of them.
+-- Of the code: the numbers of a table and of a state after a line of a scenario that sets one of them.
 use Prim.Native.Nat.{ℕ, _+_, _-_}
 use mathlib.Core.Bool.{_&&_}
 use mathlib.Core.List.{List}

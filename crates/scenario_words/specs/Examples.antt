@@ -1,4 +1,4 @@
--- Worked examples of pieces and of numbers: one table each, one statement each.
+-- Of the code: worked examples of pieces and of numbers: one table each, one statement each.
 use Prim.Native.Nat.{ℕ}
 use Prim.Native.String.{String}
 use mathlib.Core.Bool.{true, false}

@@ -1,4 +1,4 @@
--- The numbers that words are: "1 to 20 decimal digits, leading zeros allowed, that fit 64 bits".
+-- Of the code: the numbers that words are: "1 to 20 decimal digits, leading zeros allowed, that fit 64 bits".
 use Prim.Native.Nat.{ℕ, _+_, _-_, _*_, _^_}
 use mathlib.Core.Bool.{Bool, true, false, _&&_}
 use mathlib.Core.List.{List, [], _∷_}

@@ -1,5 +1,5 @@
--- The pieces of a text that a byte parts: words by spaces, lines by newlines. Parted by exactly one byte each, so that a
--- piece may have no bytes, and a text of none is one such piece.
+-- Of the code: the pieces of a text that a byte parts: words by spaces, lines by newlines. Parted by exactly one byte each, so that a piece may have
+-- no bytes, and a text of none is one such piece.
 use Prim.Native.Nat.{ℕ}
 use mathlib.Core.Bool.{Bool, true, false}
 use mathlib.Core.List.{List, [], _∷_}

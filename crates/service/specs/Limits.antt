@@ -1,4 +1,4 @@
--- The limits and the defaults of paper 01, each named once. Times are in units of 0.1 ms.
+-- Trusted: the limits and the defaults of paper 01, each named once. Times are in units of 0.1 ms.
 use Prim.Native.Nat.{ℕ, _+_, _*_, _^_}
 
 -- 1: "more than 32 services"

@@ -1,5 +1,5 @@
--- The numbers of types, signals, phases, causes, refusals, actions and settings: the first four from 0 in paper 01's order, and back; a number past a
--- list's last stands for none, and is read as the last.
+-- Trusted: the numbers of types, signals, phases, causes, refusals, actions and settings: the first four from 0 in paper 01's order, and back; a
+-- number past a list's last stands for none, and is read as the last.
 use Prim.Native.Nat.{ℕ, zero, suc, _+_}
 use mathlib.Core.Bool.{Bool, true, false}
 use mathlib.Core.List.{List, [], _∷_}

@@ -1,4 +1,4 @@
--- The service record: phases and causes, the fresh record, and the records of a state.
+-- Trusted: the service record: phases and causes, the fresh record, and the records of a state.
 use Prim.Native.Nat.{ℕ}
 use mathlib.Core.Bool.{Bool, true, false}
 use lib.ListN.{getD, set, replicate}

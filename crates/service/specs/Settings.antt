@@ -1,4 +1,4 @@
--- The settings of a service: its types, its dependencies, the defaults, and the settings in a table.
+-- Trusted: the settings of a service: its types, its dependencies, the defaults, and the settings in a table.
 use Prim.Native.Nat.{ℕ}
 use mathlib.Core.Bool.{Bool, true, false}
 use lib.Bits.{bitOr}
