@@ -334,8 +334,9 @@ AlwaysFormed = (t : Table) → tableFormed t ≡ true → (cs : List Call) → f
 --                       settledAs, settled
 -- rules/WellFormed      linksInside, settingsInRange, tableFormed, deadlineInRange, timesInRange, shaped, shapedAt, stateFormed, formed
 -- rules/Dependencies    hardLinks, strongLinks, allLinks, hard, strong, soft, depends, serving, closing, barred, blocked, needed
--- service/Limits        maxServices, longestTime, maxCount, lastClock, lastTime
--- service/Settings      formOfKind, formOf, isPassing, startsFirst, livesUp, strongOf, linksOf, noSettings, settingsAt
+-- service/Limits        maxServices, longestTime, maxCount, lastClock, lastTime, defaultDelay, defaultInterval, defaultLimit, defaultStartTimeout,
+--                       defaultStopTimeout
+-- service/Settings      formOfKind, formOf, isPassing, startsFirst, livesUp, strongOf, linksOf, defaultsWith, defaultSettings, settingsAt
 -- service/Records       isDown, isWaiting, isStarting, isUp, isEnding, active, isNone, isUser, freshRecord, remade, moved, flagged, clocked,
 --                       withPhase, withCause, withWanted, withAside, withLive, withKilled, withNotBefore, withLaunch, withWindow, withCount,
 --                       freshState, recordAt, withRecord
