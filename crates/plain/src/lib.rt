@@ -2,6 +2,14 @@
 // for no table or no state is refused with 24.
 mod forms;
 
+pub use forms::Asked;
+pub use forms::Event;
+pub use forms::Load;
+pub use forms::Next;
+pub use forms::Run;
+use load_lent::Answer;
+use loader::Commands;
+use loader::Loaded;
 use plain_encoding::Numbers;
 use plain_encoding::is_state;
 use plain_encoding::is_table;
@@ -9,13 +17,6 @@ use plain_encoding::read_state;
 use plain_encoding::read_table;
 use plain_encoding::write_state;
 use plain_encoding::write_table;
-pub use forms::Asked;
-pub use forms::Event;
-pub use forms::Load;
-pub use forms::Next;
-pub use forms::Run;
-use load_lent::Answer;
-use loader::Loaded;
 use service::ActionAnswer;
 use service::Changed;
 use service::Deadline;
@@ -30,7 +31,6 @@ use service::action_number;
 use service::action_service;
 use service::is_quiet;
 use service::refusal_number;
-use load_tokens::Commands;
 ghost use mathlib.Core.Path.{_≡_};
 ghost use Prim.Native.Nat.{_<_};
 ghost use lib.Dec.{eqb};
