@@ -9,8 +9,8 @@ use Rattle.service.specs.Limits.{maxServices}
 use Rattle.service.specs.Records.{freshState}
 use Rattle.load_lent.specs.declared.Answer.{Answer}
 use Rattle.load_lent.specs.declared.Answer.the-variants.{Accepted, Refused}
-use Rattle.load_tokens.specs.Tokens.{noTokens}
-use Rattle.load_tokens.specs.declared.Commands.{Commands}
+use Rattle.loader.specs.Tokens.{noTokens}
+use Rattle.loader.specs.declared.tokens.Commands.{Commands}
 use Rattle.loader.specs.declared.Loaded.{Loaded}
 use Rattle.plain_encoding.specs.Numbers.{stateNumbers, tableNumbers}
 use Rattle.plain.specs.declared.forms.Load.{Load}

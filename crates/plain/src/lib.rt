@@ -8,7 +8,7 @@ pub use forms::Load;
 pub use forms::Next;
 pub use forms::Run;
 use load_lent::Answer;
-use load_tokens::Commands;
+use loader::Commands;
 use loader::Loaded;
 use plain_encoding::Numbers;
 use plain_encoding::is_state;

@@ -5,7 +5,7 @@ use lib.ListN.{getD}
 use Rattle.base.proofs.Lists.{length-mapped}
 use Rattle.base.proofs.Loops.{Folded, folded-none, folded-more, folded-all}
 use Rattle.service.specs.Limits.{maxServices}
-use Rattle.load_tokens.specs.Tokens.{noTokens}
+use Rattle.loader.specs.Tokens.{noTokens}
 use Rattle.plain.specs.Loads.{counted, countsOf}
 use Rattle.plain.proofs.write_counts.Statement.{statement}
 use Rattle.plain.proofs.write_counts.Tie as tie
