@@ -66,7 +66,8 @@ module _ (text : ℕ → List ℕ) (buffer : List ℕ) (n : ℕ) (ds : List Desc
         test-on buffer 25 0 (le-leb (length (bytesFrom text ds 0 n)) (length buffer) fits)
         (rw (q, e))
 
-    pub stored-small : length buffer < p .room → {a : Answer} → a ≡ bare 25 0 → {r : Loaded} → r ≡ refused a → record { loaded = r; buffer = buffer } ≡ stored text buffer n ds vs
+    pub stored-small : length buffer < p .room → {a : Answer} → a ≡ bare 25 0 → {r : Loaded} → r ≡ refused a
+        → record { loaded = r; buffer = buffer } ≡ stored text buffer n ds vs
     unfolding stored
     stored-small h g q =
         let small : length buffer < length (bytesFrom text ds 0 n) = rw (← ap (λ (y : Placed). y .room) e) h in

@@ -22,16 +22,22 @@ loop-holds c = (search needs, rw (sub-zero (c .before .before .args .n)))
 
 returns : tie.Need-returns Inv-loop μ-loop
 returns c =
+    let at-text = c .before .before .before .before in
+    let inv = at-text .before .before .loop .inv in
+    let taken = at-text .before .loop-test .taken in
     sym
-    (c .before .before .before .before .before .before .loop .inv .1
-    ∙ texts-bad _ _ _ _ (c .before .before .before .before .before .loop-test .taken) (c .before .before .before .before .text-at .ensures) (c .before .before .before .read-text .ensures) (c .before .enum-told2 .given .1) _ (c .refuse-text .ensures))
+    (inv .1
+    ∙ texts-bad _ _ _ _ taken (at-text .text-at .ensures) (c .before .before .before .read-text .ensures) (c .before .enum-told2 .given .1) _
+    (c .refuse-text .ensures))
 
 loop-again : tie.Need-loop-again Inv-loop μ-loop
-loop-again c = (
-  search needs,
-  c .before .before .before .before .before .before .loop .inv .1
-      ∙ texts-read _ _ _ _ (c .before .before .before .before .before .loop-test .taken) (c .before .before .before .before .text-at .ensures) (c .before .before .before .read-text .ensures) (c .before .enum-told .given .1) refl,
-)
+loop-again c =
+    let at-text = c .before .before .before .before in
+    let inv = at-text .before .before .loop .inv in
+    let taken = at-text .before .loop-test .taken in (
+      search needs,
+      inv .1 ∙ texts-read _ _ _ _ taken (at-text .text-at .ensures) (c .before .before .before .read-text .ensures) (c .before .enum-told .given .1) refl,
+    )
 
 returns-2 : tie.Need-returns-2 Inv-loop μ-loop
 returns-2 c = sym (c .before .loop .inv .1 ∙ texts-end _ _ _ _ (omega (arith, c .loop-test .left)))

@@ -21,7 +21,9 @@ write-service-requires c κs = search places-told
 loop-again : tie.Need-loop-again Inv-loop μ-loop
 loop-again c =
     let at-text = c .before .before .before .before .before .before in
-    writing-more _ _ _ _ _ (at-text .before .loop-test .taken) (search needs) (search needs) (at-text .text-at .ensures) (at-text .before .before .loop .inv) _ (c .before .before .write-service .ensures)
+    let inv = at-text .before .before .loop .inv in
+    writing-more _ _ _ _ _ (at-text .before .loop-test .taken) (search needs) (search needs) (at-text .text-at .ensures) inv _
+    (c .before .before .write-service .ensures)
 
 returns : tie.Need-returns Inv-loop μ-loop
 returns c = search writing-end
