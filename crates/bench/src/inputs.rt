@@ -5,7 +5,6 @@ use service::MAX_SERVICES;
 use service::Phase;
 use service::Record;
 use service::Settings;
-use service::Signal;
 use service::State;
 use service::Table;
 use service::with_phase;
@@ -70,19 +69,14 @@ fn kind_of(i: usize) -> Kind {
 
 fn settings_of(i: usize, n: usize) -> Settings {
     let place = place_of(i, n);
+    let by_default = Settings::default();
     Settings {
         kind: kind_of(i),
         restart: true,
-        has_stop: false,
-        signal: Signal::Term,
-        delay: Settings::RESTART_DELAY,
-        interval: Settings::RESTART_LIMIT_INTERVAL,
-        limit: Settings::RESTART_LIMIT_COUNT,
-        start_timeout: Settings::START_TIMEOUT,
-        stop_timeout: Settings::STOP_TIMEOUT,
         hard: dependency(place, 1, n),
         milestone: dependency(place, 2, n),
         soft: dependency(place, 3, n),
+        ..by_default
     }
 }
 

@@ -8,6 +8,7 @@ use Rattle.base.specs.Folds.{every, first, some}
 use Rattle.base.specs.Links.{cyclic, reach}
 use Rattle.base.specs.Sets.{hasBit, within}
 use Rattle.service.specs.Records.{freshState, recordAt, withRecord}
+use Rattle.service.specs.Numbers.{settingsFrom}
 use Rattle.service.specs.Settings.{process, settingsAt}
 use Rattle.service.specs.declared.Action.the-variants.{Launch, Moved, Quiet, Signal}
 use Rattle.service.specs.declared.Deadline.the-variants.{At, None as NoDeadline}
@@ -112,7 +113,7 @@ examples = fourthFallAside ∷ fourthFallLater ∷ stopSpreads ∷ stopUnwants �
 
 -- THE STATEMENT
 pub examples-hold : AllGiven examples
-unfolding answers some every first hasBit within reach cyclic settingsAt recordAt withRecord freshState hardLinks strongLinks allLinks hard strong soft depends blocked needed tableFormed shapedAt stateFormed formed each startReaches afterStart afterStop afterStopAll endedAs afterEnd afterClock due fits lostToUser leaves hands chosenFrom chosen act actOn nextAction stateAfter actionAfter stepsToQuiet written writtenServices writtenActions earliest check outcome
+unfolding settingsFrom answers some every first hasBit within reach cyclic settingsAt recordAt withRecord freshState hardLinks strongLinks allLinks hard strong soft depends blocked needed tableFormed shapedAt stateFormed formed each startReaches afterStart afterStop afterStopAll endedAs afterEnd afterClock due fits lostToUser leaves hands chosenFrom chosen act actOn nextAction stateAfter actionAfter stepsToQuiet written writtenServices writtenActions earliest check outcome
 examples-hold = (refl, (refl, (refl, (refl, (refl, (refl, (refl, (refl, tt))))))))
 
 -- ---- a run, with what its slices hold then

@@ -7,7 +7,8 @@ use Rattle.base.specs.Folds.{every, first, some}
 use Rattle.base.specs.Links.{cyclic, reach}
 use Rattle.base.specs.Sets.{hasBit, within}
 use Rattle.service.specs.Records.{freshState, recordAt, withRecord}
-use Rattle.service.specs.Settings.{process, settingsAt}
+use Rattle.service.specs.Numbers.{settingsFrom, withNumber}
+use Rattle.service.specs.Settings.{defaultsWith, process, settingsAt}
 use Rattle.service.specs.declared.Action.the-variants.{Launch, Moved, Quiet, Signal}
 use Rattle.service.specs.declared.Kind.the-variants.{Scripted}
 use Rattle.service.specs.declared.Settings.{Settings}
@@ -22,20 +23,7 @@ use Rattle.rules.specs.Worked.{AllGiven, Played, answers, pair, played, 
 
 -- a scripted service that has ten units to start
 abbrev script : ℕ → Settings
-script h = record {
-  kind = Scripted;
-  restart = false;
-  «has_stop» = false;
-  signal = Term;
-  delay = 0;
-  interval = 0;
-  limit = 0;
-  «start_timeout» = 10;
-  «stop_timeout» = 10;
-  hard = h;
-  milestone = 0;
-  soft = 0;
-}
+script h = withNumber 6 10 (withNumber 5 10 (defaultsWith Scripted false h))
 
 abbrev pub scripts : Table
 scripts = tableOf (script 0 ∷ script 1 ∷ [])
@@ -89,5 +77,5 @@ readings = readerWaits ∷ timeoutFromLaunch ∷ stopInhibits ∷ readerKept ∷
 
 -- THE STATEMENT
 pub readings-hold : AllGiven readings
-unfolding answers some every first hasBit within reach cyclic settingsAt recordAt withRecord freshState hardLinks strongLinks allLinks hard strong soft depends blocked needed tableFormed shapedAt stateFormed formed each startReaches afterStart afterStop afterStopAll endedAs afterEnd afterClock due fits lostToUser leaves hands chosenFrom chosen act actOn nextAction check outcome
+unfolding settingsFrom answers some every first hasBit within reach cyclic settingsAt recordAt withRecord freshState hardLinks strongLinks allLinks hard strong soft depends blocked needed tableFormed shapedAt stateFormed formed each startReaches afterStart afterStop afterStopAll endedAs afterEnd afterClock due fits lostToUser leaves hands chosenFrom chosen act actOn nextAction check outcome
 readings-hold = (refl, (refl, (refl, (refl, (refl, tt)))))
