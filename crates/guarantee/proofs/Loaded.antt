@@ -39,7 +39,7 @@ use Rattle.loader.proofs.Outcomes.{every-load, setDescriptions, setServices}
 use Rattle.load_links.specs.declared.Linked.{Linked}
 use Rattle.load_links.specs.declared.Links.{Links}
 use Rattle.guarantee.specs.Guarantee.{LoadsFormed}
-use Rattle.guarantee.proofs.Values.{InRange, default-ranged, text-in}
+use Rattle.guarantee.proofs.Values.{InRange, default-ranged, text-few, text-in}
 
 -- the settings of one service in a set of n
 pub record ServiceIn (n : ℕ) (v : Settings) : Type 0 where
@@ -89,6 +89,12 @@ links-in name n text d = go (leb (d .count) maxDependencies)
     go true = links-from name n text d noLinks 0 (d .count) (no-links-in n)
     go false = no-links-in n
 
+-- a description that was read is never refused for its number of dependencies: all that it names are looked through
+pub read-looked-through : (name : ℕ → List ℕ) (n : ℕ) (text t : List ℕ) → let d = textRead t .description in
+    linksIn name n text d ≡ linksFrom name n text d noLinks 0 (d .count)
+unfolding linksIn
+read-looked-through name n text t = rw (text-few t)
+
 -- ---- the settings of a service
 
 service-in : (n : ℕ) (d : Description) (l : Links) → InRange (d .settings) → LinksIn n l → ServiceIn n (settingsOf d l)
@@ -111,7 +117,9 @@ descriptions-in : (text : ℕ → List ℕ) (ds : List Description) (j m : ℕ) 
 unfolding descriptionsFrom
 descriptions-in text ds j zero h = h
 descriptions-in text ds j (suc m) h =
-    go (textRead (text j) .answer) (descriptions-in text (set ds j (textRead (text j) .description)) (j + 1) m (λ i. set-holds (λ d. InRange (d .settings)) ds j i (textRead (text j) .description) blank (λ _. text-in (text j)) (h i)))
+    go (textRead (text j) .answer)
+    (descriptions-in text (set ds j (textRead (text j) .description)) (j + 1) m
+    (λ i. set-holds (λ d. InRange (d .settings)) ds j i (textRead (text j) .description) blank (λ _. text-in (text j)) (h i)))
   where
     go : (v : Verdict) → AllIn (descriptionsFrom text (set ds j (textRead (text j) .description)) (j + 1) m .descriptions)
         → AllIn (descriptionsOn (text j) j v ds (descriptionsFrom text (set ds j (textRead (text j) .description)) (j + 1) m) .descriptions)
@@ -126,7 +134,10 @@ services-in : (name text : ℕ → List ℕ) (ds : List Description) (n : ℕ) (
 unfolding servicesFrom
 services-in name text ds n vs j zero h k = k
 services-in name text ds n vs j (suc m) h k =
-    go (r .answer) (services-in name text ds n vs′ (j + 1) m h (λ i. set-holds (ServiceIn n) vs j i (settingsOf d (r .links)) defaultSettings (λ _. service-in n d (r .links) (h j) (links-in name n (text j) d)) (k i)))
+    go (r .answer)
+    (services-in name text ds n vs′ (j + 1) m h
+    (λ i. set-holds (ServiceIn n) vs j i (settingsOf d (r .links)) defaultSettings
+    (λ _. service-in n d (r .links) (h j) (links-in name n (text j) d)) (k i)))
   where
     d : Description
     d = descriptionAt ds j
@@ -171,7 +182,8 @@ none-formed = refl
 set-in : (lent ends : List ℕ) → AllServices (serviceCount ends) (setServices lent ends)
 set-in lent ends =
     services-in (nameAt lent ends) (textAt lent ends) (setDescriptions lent ends) n (replicate maxServices defaultSettings) 0 n
-    (descriptions-in (textAt lent ends) noDescriptions 0 n (λ i. copies-hold (λ d. InRange (d .settings)) maxServices i blank blank default-ranged default-ranged))
+    (descriptions-in (textAt lent ends) noDescriptions 0 n
+    (λ i. copies-hold (λ d. InRange (d .settings)) maxServices i blank blank default-ranged default-ranged))
     (λ i. copies-hold (ServiceIn n) maxServices i defaultSettings defaultSettings (default-in n) (default-in n))
   where
     n : ℕ

@@ -1,10 +1,12 @@
--- The settings that a description is read to are in list 24's ranges: every line keeps them so.
+-- The settings that a description is read to are in list 24's ranges, and it has at most 16 dependencies: every line keeps it so.
 use Prim.Native.Nat.{_+_, ℕ}
+use borrow.Author.Tests.{le-leb, ltb-true}
 use lib.Dec.{eqb, leb, ltb}
 use lib.ListN.{drop, getD, length, set}
 use mathlib.Core.Bool.{Bool, _&&_, _||_, false, not, true}
 use mathlib.Core.List.{List, [], _∷_}
 use mathlib.Core.Path.{_≡_, refl}
+use native.Mathlib.Omega.{arith}
 use Rattle.base.specs.Folds.{pick}
 use Rattle.base.proofs.Lists.{set-holds}
 use Rattle.base.proofs.Tests.{and-true}
@@ -143,98 +145,115 @@ setting-in TermSignal w v h = worth-in 7 v (signalOf w) h (any-worth (signalOf w
 
 -- ---- a line's effect
 
-abbrev EffectIn : Effect → Type 0
-EffectIn Nothing = Unit {0}
-EffectIn (Kind k) = Unit {0}
-EffectIn (Settings v) = InRange v
-EffectIn (Command c at) = Unit {0}
-EffectIn (Dependency l at) = Unit {0}
+-- what the effect needs of the description d to keep it so
+abbrev EffectIn : Description → Effect → Type 0
+EffectIn d Nothing = Unit {0}
+EffectIn d (Kind k) = Unit {0}
+EffectIn d (Settings v) = InRange v
+EffectIn d (Command c at) = Unit {0}
+EffectIn d (Dependency l at) = ltb (d .count) maxDependencies ≡ true
 
-abbrev LineIn : Line → Type 0
-LineIn (GoodLine e) = EffectIn e
-LineIn (BadLine f) = Unit {0}
+abbrev LineIn : Description → Line → Type 0
+LineIn d (GoodLine e) = EffectIn d e
+LineIn d (BadLine f) = Unit {0}
 
--- what holds of both sides of a choice holds of the choice
-either-line : (b : Bool) (x y : Line) → LineIn x → LineIn y → LineIn (pick b x y)
-either-line true x y f g = f
-either-line false x y f g = g
+-- what holds of both sides of a choice, each where its side is taken, holds of the choice
+by-test : (d : Description) (b : Bool) (x y : Line) → (b ≡ true → LineIn d x) → (b ≡ false → LineIn d y) → LineIn d (pick b x y)
+by-test d true x y f g = f refl
+by-test d false x y f g = g refl
 
-dependency-in : (text : List ℕ) (d : Description) (l : LinkName) (at seen : ℕ) (w : List ℕ) → LineIn (dependencyRead text d l at seen w)
+either-line : (d : Description) (b : Bool) (x y : Line) → LineIn d x → LineIn d y → LineIn d (pick b x y)
+either-line d b x y f g = by-test d b x y (λ _. f) (λ _. g)
+
+dependency-in : (text : List ℕ) (d : Description) (l : LinkName) (at seen : ℕ) (w : List ℕ) → LineIn d (dependencyRead text d l at seen w)
 unfolding dependencyRead
 dependency-in text d l at seen w =
-    either-line (known text d l w) _ _ tt (either-line (ltb (d .count) maxDependencies) _ _ tt tt)
+    either-line d (known text d l w) _ _ tt (by-test d (ltb (d .count) maxDependencies) _ _ (λ e. e) (λ _. tt))
 
 module _ (text : List ℕ) (d : Description) (h : InRange (d .settings)) where
-  word-in : (p : Property) (at seen : ℕ) (w : List ℕ) → LineIn (wordRead text d p at seen w)
+  word-in : (p : Property) (at seen : ℕ) (w : List ℕ) → LineIn d (wordRead text d p at seen w)
   unfolding wordRead
   word-in KindProperty at seen w = go (kindOf w)
     where
-      go : (x : Worth) → LineIn (kindRead seen x)
+      go : (x : Worth) → LineIn d (kindRead seen x)
       go (Value n) = tt
       go BadWorth = tt
   word-in (Setting s) at seen w = go (settingOf s w (d .settings)) (setting-in s w (d .settings) h)
     where
-      go : (x : Change) → ChangeIn x → LineIn (settingRead seen x)
+      go : (x : Change) → ChangeIn x → LineIn d (settingRead seen x)
       go (To v) k = k
       go Refused k = tt
-  word-in (Link l) at seen w = either-line (isName w) _ _ (dependency-in text d l at seen w) tt
+  word-in (Link l) at seen w = either-line d (isName w) _ _ (dependency-in text d l at seen w) tt
   word-in (CommandProperty c) at seen w = tt
   word-in Unknown at seen w = tt
 
-  single-in : (p : Property) (at seen : ℕ) (z : Sizes) (value : List ℕ) → LineIn (singleRead text d p at seen z value)
-  single-in p at seen z value = either-line (isWord z) _ _ (word-in p at seen (wordOf value)) tt
+  single-in : (p : Property) (at seen : ℕ) (z : Sizes) (value : List ℕ) → LineIn d (singleRead text d p at seen z value)
+  single-in p at seen z value = either-line d (isWord z) _ _ (word-in p at seen (wordOf value)) tt
 
-  tokens-in : (p : Property) (at seen : ℕ) (z : Sizes) (value : List ℕ) → LineIn (tokensRead text d p at seen z value)
+  tokens-in : (p : Property) (at seen : ℕ) (z : Sizes) (value : List ℕ) → LineIn d (tokensRead text d p at seen z value)
   unfolding tokensRead
-  tokens-in (CommandProperty c) at seen z value = either-line (isCommand z) _ _ tt tt
+  tokens-in (CommandProperty c) at seen z value = either-line d (isCommand z) _ _ tt tt
   tokens-in KindProperty at seen z value = single-in KindProperty at seen z value
   tokens-in (Setting s) at seen z value = single-in (Setting s) at seen z value
   tokens-in (Link l) at seen z value = single-in (Link l) at seen z value
   tokens-in Unknown at seen z value = single-in Unknown at seen z value
 
-  line-in : (from : ℕ) (l : List ℕ) → LineIn (lineRead text d from l)
+  line-in : (from : ℕ) (l : List ℕ) → LineIn d (lineRead text d from l)
   unfolding lineRead propertyRead
   line-in from l = go (opening l)
     where
-      scanned : (p : Property) (at seen : ℕ) (s : Scan) (value : List ℕ) → LineIn (scanRead text d p at seen s value)
+      scanned : (p : Property) (at seen : ℕ) (s : Scan) (value : List ℕ) → LineIn d (scanRead text d p at seen s value)
       scanned p at seen (Tokens z) value = tokens-in p at seen z value
       scanned p at seen (BadValue f) value = tt
 
-      go : (o : Opening) → LineIn (openingRead text d from l o)
+      go : (o : Opening) → LineIn d (openingRead text d from l o)
       go Silent = tt
       go (BadOpening f) = tt
       go (Named s) =
           let p = propertyOf (partOf l (s .from) (s .end)) in
           let value = drop (s .value) l in
-          either-line (isUnknown p) _ _ tt (scanned p (from + s .value) (from + whiteEnd l (s .value)) (scanOf value) value)
+          either-line d (isUnknown p) _ _ tt (scanned p (from + s .value) (from + whiteEnd l (s .value)) (scanOf value) value)
 
--- ---- the settings of a description
+-- ---- what is read of a description
 
-affected-in : (d : Description) (e : Effect) → InRange (d .settings) → EffectIn e → InRange (affected d e .settings)
+record Sound (d : Description) : Type 0 where
+  ranged : InRange (d .settings)
+  few : leb (d .count) maxDependencies ≡ true
+
+blank-sound : Sound blank
+blank-sound = record { ranged = default-ranged; few = refl }
+
+affected-in : (d : Description) (e : Effect) → Sound d → EffectIn d e → Sound (affected d e)
 affected-in d Nothing h k = h
-affected-in d (Kind t) h k = stored-in 0 (kindNumber t) (d .settings) refl h
-affected-in d (Settings v) h k = k
-affected-in d (Command Start at) h k = h
-affected-in d (Command Stop at) h k = stored-in 11 1 (d .settings) refl h
-affected-in d (Dependency l at) h k = h
+affected-in d (Kind t) h k = record { ranged = stored-in 0 (kindNumber t) (d .settings) refl (h .ranged); few = h .few }
+affected-in d (Settings v) h k = record { ranged = k; few = h .few }
+affected-in d (Command Start at) h k = record { ranged = h .ranged; few = h .few }
+affected-in d (Command Stop at) h k = record { ranged = stored-in 11 1 (d .settings) refl (h .ranged); few = h .few }
+affected-in d (Dependency l at) h k =
+    let room = ltb-true (d .count) maxDependencies k in
+    record { ranged = h .ranged; few = le-leb (d .count + 1) maxDependencies (omega arith) }
 
-lines-in : (text : List ℕ) (d : Description) (from : ℕ) (ls : List (List ℕ)) → InRange (d .settings)
-    → InRange (linesRead text d from ls .description .settings)
+lines-in : (text : List ℕ) (d : Description) (from : ℕ) (ls : List (List ℕ)) → Sound d → Sound (linesRead text d from ls .description)
 unfolding linesRead
 lines-in text d from [] h = h
 lines-in text d from (l ∷ ls) h =
-    go (lineRead text d from l) (line-in text d h from l) (λ d′. lines-in text d′ (from + length l + 1) ls)
+    go (lineRead text d from l) (line-in text d (h .ranged) from l) (λ d′. lines-in text d′ (from + length l + 1) ls)
   where
-    go : (r : Line) → LineIn r
-        → ((d′ : Description) → InRange (d′ .settings) → InRange (linesRead text d′ (from + length l + 1) ls .description .settings))
-        → InRange (readOn r d (λ d′. linesRead text d′ (from + length l + 1) ls) .description .settings)
+    go : (r : Line) → LineIn d r → ((d′ : Description) → Sound d′ → Sound (linesRead text d′ (from + length l + 1) ls .description))
+        → Sound (readOn r d (λ d′. linesRead text d′ (from + length l + 1) ls) .description)
     go (GoodLine e) k rest = rest (affected d e) (affected-in d e h k)
     go (BadLine f) k rest = h
 
-pub text-in : (text : List ℕ) → InRange (textRead text .description .settings)
+text-sound : (text : List ℕ) → Sound (textRead text .description)
 unfolding textRead
-text-in text = go (badFrom 0 text)
+text-sound text = go (badFrom 0 text)
   where
-    go : (v : Verdict) → InRange (cleanRead v blank (linesRead text blank 0 (linesOf text)) .description .settings)
-    go Good = lines-in text blank 0 (linesOf text) default-ranged
-    go (Bad f) = default-ranged
+    go : (v : Verdict) → Sound (cleanRead v blank (linesRead text blank 0 (linesOf text)) .description)
+    go Good = lines-in text blank 0 (linesOf text) blank-sound
+    go (Bad f) = blank-sound
+
+pub text-in : (text : List ℕ) → InRange (textRead text .description .settings)
+text-in text = text-sound text .ranged
+
+pub text-few : (text : List ℕ) → leb (textRead text .description .count) maxDependencies ≡ true
+text-few text = text-sound text .few

@@ -121,7 +121,8 @@ module _ (name text : ℕ → List ℕ) (ds : List Description) (n : ℕ) where
     pub services-in : n ≤ maxServices → {r : Services} → r ≡ servicesFrom name text ds n (replicate maxServices v) 0 n → r ≡ servicesIn name text ds n
     services-in h e = e ∙ (ap (λ (a : Settings). all (replicate maxServices a)) is ∙ sym (few true (le-leb n maxServices h)))
 
-    pub services-many : maxServices < n → {a : Answer} → a ≡ bare 1 0 → record { answer = a; services = replicate maxServices v } ≡ servicesIn name text ds n
+    pub services-many : maxServices < n → {a : Answer} → a ≡ bare 1 0
+        → record { answer = a; services = replicate maxServices v } ≡ servicesIn name text ds n
     services-many h e =
         ap₂ (λ (a : Answer) (s : Settings). record { answer = a; services = replicate maxServices s }) e is
         ∙ sym (few false (lt-leb n maxServices h))
