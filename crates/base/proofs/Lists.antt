@@ -3,6 +3,7 @@ use Prim.Native.Nat.{_<_, suc, zero, ℕ}
 use lib.ListN.{getD, length, length-map, replicate, set}
 use mathlib.Core.List.{List, [], _∷_, map}
 use mathlib.Core.Path.{_∙_, _≡_, ap, ap₂, refl, sym}
+use native.Mathlib.Nat.{not-suc-le-zero, le-of-suc-le-suc}
 use native.Mathlib.Omega.{arith}
 use Rattle.base.specs.Folds.{listed}
 
@@ -29,3 +30,9 @@ copies-hold P (suc n) (suc i) a d h k = copies-hold P n i a d h k
 -- what owning an array of structs tells is said of the values that stand for them: the array is as long
 pub length-mapped : (X Y : Type 0) (f : X → Y) (l : List X) (n : ℕ) → length (map f l) ≡ n → length l ≡ n
 length-mapped X Y f l n p = sym (length-map l f) ∙ p
+
+-- within a list, what is read past its end does not matter
+pub getD-default : {A : Type 0} (l : List A) (k : ℕ) (d e : A) → k < length l → getD l k d ≡ getD l k e
+getD-default [] k d e h = absurd (not-suc-le-zero h)
+getD-default (x ∷ l) zero d e h = refl
+getD-default (x ∷ l) (suc k) d e h = getD-default l k d e (le-of-suc-le-suc h)

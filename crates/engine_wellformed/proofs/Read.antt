@@ -1,28 +1,18 @@
--- Reading the table: what the code reads at a place inside it is the settings there, whatever a read past the last place would give.
-use Prim.Native.Nat.{ℕ, zero, suc, _+_, _≤_, _<_}
-use native.Mathlib.Nat.{not-suc-le-zero, le-of-suc-le-suc}
+-- Loops over the table: a service more, by what the code read of it.
+use Prim.Native.Nat.{ℕ, _+_, _≤_, _<_}
 use native.Mathlib.Omega.{arith}
-use mathlib.Core.Path.{_≡_, refl, ap, _∙_}
+use mathlib.Core.Path.{_≡_, ap, _∙_}
 use mathlib.Core.Bool.{Bool, _&&_}
-use mathlib.Core.List.{List, [], _∷_}
+use mathlib.Core.List.{List}
 use lib.ListN.{length, getD, set}
 use Rattle.base.proofs.Loops.{Every, every-more}
 use Rattle.base.proofs.Filled.{Filling, filling-more}
 use Rattle.service.specs.Limits.{maxServices}
-use Rattle.service.specs.Settings.{defaultSettings, linksOf, settingsAt}
+use Rattle.service.specs.Settings.{linksOf, settingsAt}
 use Rattle.service.specs.declared.Settings.{Settings}
 use Rattle.service.specs.declared.Table.{Table}
+use Rattle.service.proofs.Reading.{settings-read}
 use Rattle.rules.specs.Dependencies.{allLinks}
-
--- inside a list its default is not read
-inside-list : {A : Type 0} (l : List A) (i : ℕ) (d e : A) → i < length l → getD l i d ≡ getD l i e
-inside-list [] i d e h = absurd (not-suc-le-zero h)
-inside-list (x ∷ l) zero d e h = refl
-inside-list (x ∷ l) (suc i) d e h = inside-list l i d e (le-of-suc-le-suc h)
-
-pub settings-read : (t : Table) (i : ℕ) (d : Settings) → length (t .services) ≡ maxServices → i < maxServices → getD (t .services) i d ≡ settingsAt t i
-unfolding settingsAt
-settings-read t i d z l = inside-list (t .services) i d defaultSettings (rw z l)
 
 -- one more service passed, q being what the code has of the settings and the record that it read
 pub every-read : (p : Settings → ℕ → Bool) (t : Table) (i : ℕ) (b q : Bool) (d : Settings) → length (t .services) ≡ maxServices → t .count ≤ maxServices

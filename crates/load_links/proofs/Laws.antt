@@ -8,6 +8,7 @@ use mathlib.Core.List.{List}
 use mathlib.Core.Path.{_∙_, _≡_, ap, ap₂, refl, sym}
 use native.Mathlib.Nat.{sub-zero}
 use native.Mathlib.Omega.{arith}
+use Rattle.base.proofs.Lists.{getD-default}
 use Rattle.base.specs.Folds.{pick}
 use Rattle.base.specs.Sets.{single}
 use Rattle.base.proofs.Counting.{one-left}
@@ -17,7 +18,6 @@ use Rattle.service.specs.declared.Settings.{Settings}
 use Rattle.load_text.specs.Lines.{fault}
 use Rattle.load_text.specs.declared.Fault.{Fault}
 use Rattle.load_text.specs.declared.Verdict.the-variants.{Bad as Bad, Good as Good}
-use Rattle.load_text.proofs.Strings.{getD-default}
 use Rattle.load_description.specs.Settings.{blank, dependencyAt, descriptionAt, maxDependencies, wordAt}
 use Rattle.load_description.specs.declared.Description.{Description}
 use Rattle.load_lent.specs.Checks.{find}

@@ -4,10 +4,10 @@ use denote.Ref.{RefT, now}
 use mathlib.Core.List.{List, [], _∷_, map}
 use mathlib.Core.Bool.{Bool, true, false, _&&_}
 use Prim.Native.Nat.{ℕ, zero, suc, _+_, _≤_, _<_}
-use native.Mathlib.Nat.{not-suc-le-zero, le-of-suc-le-suc}
 use lib.Dec.{eqb}
 use lib.ListN.{length, getD, drop, drop-of-length-le, List·getD-map, length-map}
 use Rattle.base.proofs.Counting.{drop-more}
+use Rattle.base.proofs.Lists.{getD-default}
 use Rattle.base.proofs.Tests.{and-none}
 use Rattle.base.specs.Folds.{pick}
 use Rattle.load_text.specs.Strings.{same, indexFrom}
@@ -39,12 +39,6 @@ module _ (n : List ℕ) (i : ℕ) (ts : List (List ℕ)) (k : ℕ) where
       → indexFrom n i (drop k ts) ≡ pick t i (indexFrom n (i + 1) (drop (k + 1) ts))
   unfolding indexFrom
   index-next h e = rw (drop-more ts k [] h, e)
-
--- within a list, what getD gives past its end does not matter
-pub getD-default : {A : Type 0} (l : List A) (k : ℕ) (d e : A) → k < length l → getD l k d ≡ getD l k e
-getD-default [] k d e h = absurd (not-suc-le-zero h)
-getD-default (x ∷ l) zero d e h = refl
-getD-default (x ∷ l) (suc k) d e h = getD-default l k d e (le-of-suc-le-suc h)
 
 -- what a reference of an array refers to, in the list of all that they refer to
 pub at-now : (l : List (RefT (List ℕ))) (k : ℕ) (d : RefT (List ℕ)) → k < length l → now (getD l k d) ≡ getD (map now l) k []

@@ -6,11 +6,11 @@ use Prim.Native.Nat.{ℕ, _+_, _≤_, _<_}
 use lib.ListN.{length, getD, drop, drop-of-length-le, List·getD-eq-default}
 use native.Mathlib.Omega.{arith}
 use borrow.Author.Tests.{le-leb, lt-leb}
+use Rattle.base.proofs.Lists.{getD-default}
 use Rattle.base.proofs.Counting.{drop-more}
 use Rattle.service.specs.Numbers.{lastSignal}
 use Rattle.load_text.specs.Strings.{bytes, indexFrom, same}
 use Rattle.load_text.specs.Bytes.{isNameByte}
-use Rattle.load_text.proofs.Strings.{getD-default}
 use Rattle.load_word.specs.declared.Property.{Property}
 use Rattle.load_word.specs.declared.Property.the-variants.{Unknown}
 use Rattle.load_word.specs.Properties.{properties, propertyNames, propertyOf}

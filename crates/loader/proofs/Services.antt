@@ -6,9 +6,9 @@ use mathlib.Core.List.{List, _++_}
 use mathlib.Core.Path.{_∙_, _≡_, ap, refl, sym}
 use native.Mathlib.Nat.{sub-zero}
 use native.Mathlib.Omega.{arith}
+use Rattle.base.proofs.Lists.{getD-default}
 use Rattle.base.proofs.Counting.{one-left}
 use Rattle.service.specs.Limits.{maxServices}
-use Rattle.load_text.proofs.Strings.{getD-default}
 use Rattle.load_description.specs.Settings.{blank, descriptionAt}
 use Rattle.load_description.specs.declared.Description.{Description}
 use Rattle.loader.specs.Short.{mostRoom}

@@ -14,6 +14,7 @@ use Rattle.service.specs.declared.Record.{Record}
 use Rattle.service.specs.declared.Settings.{Settings}
 use Rattle.service.specs.declared.Table.{Table}
 use Rattle.service.specs.Numbers.{settingsFrom, settingsNumbers}
+use Rattle.service.proofs.Reading.{settings-read}
 use Rattle.plain_encoding.specs.Numbers.{placeOf, placed, recordFrom, stateOf, tableOf}
 
 -- b is a with F j at each place j below i, of n
@@ -58,20 +59,13 @@ module _ {G : ℕ → List ℕ} {a : List ℕ} {n : ℕ} where
       let s : n ≡ i = omega arith in
       rw s (h .is)
 
--- a row read inside a list is there whatever stands past its end
-row-inside : {A : Type 0} (l : List A) (k : ℕ) (x y : A) → k < length l → getD l k x ≡ getD l k y
-row-inside [] k x y h = absurd (not-suc-le-zero h)
-row-inside (v ∷ l) zero x y h = refl
-row-inside (v ∷ l) (suc k) x y h = row-inside l k x y (le-of-suc-le-suc h)
-
 -- the settings of one service more; past the places of the table the code reads x
 pub table-more : (t : Table) (x : Settings) {a b d line : List ℕ} {i : ℕ} → length (t .services) ≡ maxServices
     → Writing (λ j. settingsNumbers (settingsAt t j)) a maxServices b i → i < maxServices
     → line ≡ settingsNumbers (getD (t .services) i x) → d ≡ placed b (placeOf i) line
     → Writing (λ j. settingsNumbers (settingsAt t j)) a maxServices d (i + 1)
-unfolding settingsAt
 table-more t x {i = i} n h l e p =
-    writing-more h l (e ∙ ap settingsNumbers (row-inside (t .services) i x defaultSettings (rw n l))) p
+    writing-more h l (e ∙ ap settingsNumbers (settings-read t i x n l)) p
 
 -- what was read over fresh records, and over default settings
 pub state-read : (l : List ℕ) {none : Record} {rs : List Record} → none ≡ freshRecord

@@ -3,3 +3,4 @@ pub mod Finite
 pub mod Named
 pub mod States
 pub mod Numbering
+pub mod Reading

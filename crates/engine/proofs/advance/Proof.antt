@@ -9,7 +9,7 @@ use Rattle.service.specs.Limits.{maxServices}
 use Rattle.service.specs.Settings.{settingsAt}
 use Rattle.service.specs.Records.{recordAt, withRecord}
 use Rattle.service.specs.declared.Settings.{Settings}
-use Rattle.engine_wellformed.proofs.Read.{settings-read}
+use Rattle.service.proofs.Reading.{settings-read}
 use Rattle.engine_choice.specs.Standing.{nowhere, noting}
 use Rattle.engine_choice.proofs.Passes.{Fitting, fitting-none, fitting-more, noting-more}
 use Rattle.engine.proofs.Running.{Running, running-none, running-room, running-all, turn-inside, turn-quiet, turn-on}

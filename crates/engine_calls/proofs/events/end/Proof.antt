@@ -9,7 +9,7 @@ use Rattle.service.specs.Limits.{maxServices}
 use Rattle.service.specs.Records.{recordAt, withRecord}
 use Rattle.rules.specs.Calls.{check, outcome}
 use Rattle.rules.proofs.Formed.{formed-few}
-use Rattle.engine_wellformed.proofs.Read.{settings-read}
+use Rattle.service.proofs.Reading.{settings-read}
 use Rattle.engine_calls.proofs.Accepted.{end-done}
 use borrow.Author.Needs.{needs}
 use Rattle.engine_calls.proofs.events.end.Statement.{statement}
