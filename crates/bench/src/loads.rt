@@ -4,12 +4,12 @@ use crate::inputs::LARGE;
 use crate::inputs::MIDDLE;
 use crate::inputs::SMALL;
 use crate::inputs::modulo;
-use load_lent::Answer;
+use loader::Answer;
 use loader::Loaded;
+use loader::MAX_SERVICES;
+use loader::Settings;
+use loader::Table;
 use loader::load;
-use service::MAX_SERVICES;
-use service::Settings;
-use service::Table;
 
 // How many bytes a name has, a text, and both.
 const NAME: usize = 3;
