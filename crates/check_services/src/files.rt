@@ -9,7 +9,7 @@ ghost use Rattle.libc.specs.Io.{Ended, Status};
 
 const LAST: usize = PATH_MAX - 1;
 
-// What a look gave: 0 where there is something to see, and then its mode, which holds its kind.
+// What a look gave: a status, 0 where there is something to see, and then its mode, which says what kind of file it is.
 struct Looked {
     status: i32,
     mode: u32,

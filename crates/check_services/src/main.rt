@@ -42,7 +42,7 @@ struct Lent {
     left: usize,
 }
 
-// The buffer filled, or the service whose file will not open or read.
+// The buffer filled, or the service whose file is no regular one, or will not open or read.
 enum Filled {
     Whole(Lent),
     Unreadable(usize),
