@@ -1,4 +1,7 @@
 // Reads names from standard input, loads the files of these names in the current folder, and writes what was loaded, or the refusal.
+mod files;
+
+use files::open_regular;
 use libc::STDIN_FILENO;
 use libc::STDOUT_FILENO;
 use load_lent::Answer;
@@ -39,7 +42,7 @@ struct Lent {
     left: usize,
 }
 
-// The buffer filled, or the service whose file will not open or read.
+// The buffer filled, or the service whose file is no regular one, or will not open or read.
 enum Filled {
     Whole(Lent),
     Unreadable(usize),
@@ -88,7 +91,7 @@ fn read_text(name: &[u8], left: usize, buffer: &mut [u8], at: usize) -> Got {
             end: at,
         };
     }
-    let file = os::open_read(name);
+    let file = open_regular(name);
     if file < 0 {
         return Got {
             good: false,
