@@ -60,10 +60,11 @@ fn load_taken_up(sum: u64, y: Loaded, s: usize) -> u64 {
             number,
             service,
             line,
-        } => taken_up(
-            taken_up(taken_up(sum, number as u64), service as u64),
-            line as u64,
-        ),
+            column,
+        } => {
+            let met = taken_up(taken_up(sum, number as u64), service as u64);
+            taken_up(taken_up(met, line as u64), column as u64)
+        }
     }
 }
 

@@ -212,13 +212,15 @@ fn write_number(n: usize) {
     io::print_decimal(STDOUT_FILENO, n as u64);
 }
 
-fn write_refusal(number: u8, service: usize, line: usize) {
+fn write_refusal(number: u8, service: usize, line: usize, column: usize) {
     write(b"refused ");
     write_number(number as usize);
     write(b" service ");
     write_number(service);
     write(b" line ");
     write_number(line);
+    write(b" column ");
+    write_number(column);
     write(b"\n");
 }
 
@@ -257,12 +259,13 @@ fn write_loaded(loaded: Loaded, buffer: &[u8], ends: &[usize]) {
         number,
         service,
         line,
+        column,
     } = answer
     else {
         write_services(loaded.table, buffer, ends);
         return;
     };
-    write_refusal(number, service, line);
+    write_refusal(number, service, line, column);
 }
 
 // Loads the names with their texts, and writes what came of it.
@@ -289,12 +292,13 @@ fn names_due(names: &[u8], buffer: &mut [u8], ends: &mut [usize], tokens: &mut [
         number,
         service,
         line,
+        column,
     } = answer
     else {
         return false;
     };
     if number < 5 {
-        write_refusal(number, service, line);
+        write_refusal(number, service, line, column);
         return true;
     }
     false

@@ -191,5 +191,5 @@ set-in lent ends =
 
 pub loads-formed : LoadsFormed
 loads-formed lent ends tokens =
-    every-load (λ o. tableFormed (o .loaded .table) ≡ true) tokens (λ k s l. none-formed) lent ends
+    every-load (λ o. tableFormed (o .loaded .table) ≡ true) tokens (λ k s l c. none-formed) lent ends
     (λ few none. made-formed (serviceCount ends) (setServices lent ends) few (set-in lent ends) none)

@@ -11,7 +11,7 @@ refused-load-leaves-all lent ends tokens =
     every-load
     (λ (o : Outcome). (o .loaded .answer ≡ Accepted → ⊥) → (o .buffer ≡ tokens) × (o .loaded .table ≡ noServices))
     tokens
-    (λ k s l _. (refl, refl))
+    (λ k s l c _. (refl, refl))
     lent
     ends
     (λ few none f. absurd (f refl))

@@ -1,5 +1,6 @@
 // A lent set: the names and texts of its services in one run of bytes, with the positions where they end. Numbers 2 to 5.
 use load_text::Fault;
+use load_text::column_number;
 use load_text::line_number;
 use load_text::part;
 use load_text::same_bytes;
@@ -11,18 +12,19 @@ ghost use Rattle.load_lent.specs.Parts.{serviceCount, within, positioned
 ghost use Rattle.load_lent.specs.Checks.{find, namesFrom, sizesFrom};
 ghost use Rattle.load_lent.specs.Refusals.{bare, refusedIn};
 
-// What the checks of a set, and the load, answer: accepted, or paper 01's number with the service and the line.
+// What the checks of a set, and the load, answer: accepted, or paper 01's number with the service, the line and the column.
 pub enum Answer {
     Accepted,
     Refused {
         number: u8,
         service: usize,
         line: usize,
+        column: usize,
     },
 }
 
 impl Answer {
-    // A refusal that has no line.
+    // A refusal that has no line and no column.
     pub fn bare(number: u8, service: usize) -> Answer
         ensures { λ r. ⌜ r ≡ bare number service ⌝ }
     {
@@ -30,6 +32,7 @@ impl Answer {
             number,
             service,
             line: 0,
+            column: 0,
         }
     }
 }
@@ -184,17 +187,27 @@ pub fn check_sizes(lent: &[u8], ends: &[usize]) -> Answer
     Answer::Accepted
 }
 
-// A fault met in the text of service j, with its line where it has one.
+// A fault met in the text of service j: one that a byte decided has its line and column, 15 the line of the property and column 1.
 pub fn refused_in(text: &[u8], j: usize, f: Fault) -> Answer
     ensures { λ r. ⌜ r ≡ refusedIn (now (text .entry)) j f ⌝ }
 {
     let number = f.number;
-    let lined = ((6 <= number) & (number <= 12)) | (number == 15);
-    if lined {
+    let decided = (6 <= number) & (number <= 12);
+    let absent = number == 15;
+    if decided {
         return Answer::Refused {
             number,
             service: j,
             line: line_number(text, f.at),
+            column: column_number(text, f.at),
+        };
+    }
+    if absent {
+        return Answer::Refused {
+            number,
+            service: j,
+            line: line_number(text, f.at),
+            column: 1,
         };
     }
     Answer::bare(number, j)

@@ -2,3 +2,4 @@
 pub mod Strings
 pub mod Runs
 pub mod Lines
+pub mod Offsets

@@ -2,18 +2,18 @@
 use mathlib.Core.Path.{_≡_, refl, sym, ap, _∙_}
 use mathlib.Core.List.{List, [], _∷_}
 use mathlib.Core.Bool.{Bool, true, false, _||_}
-use Prim.Native.Nat.{ℕ, suc, _+_, _-_, _*_, _≤_, _<_, zero-le, suc-le-suc}
+use Prim.Native.Nat.{ℕ, zero, suc, _+_, _-_, _*_, _≤_, _<_, zero-le, suc-le-suc}
 use native.Mathlib.Nat.{not-suc-le-zero, add-zero}
 use native.Mathlib.Omega.{arith}
 use lib.Dec.{eqb, leb}
 use lib.ListN.{length, getD, take, drop, drop-of-length-le, length-drop, List·getD-eq-default}
-use lib.Seq.{drop-drop}
+use lib.Seq.{drop-drop, getD-drop}
 use Rattle.base.proofs.Counting.{drop-more}
-use borrow.Author.Tests.{le-leb, leb-true, leb-false}
+use borrow.Author.Tests.{eqb-true, le-leb, leb-true, leb-false}
 use Rattle.base.proofs.Tests.{no-ft}
 use Rattle.base.specs.Folds.{pick}
 use Rattle.load_text.specs.Strings.{partOf}
-use Rattle.load_text.specs.Bytes.{isWhite, isNewline, isPropertyByte, isSign}
+use Rattle.load_text.specs.Bytes.{isWhite, isNewline, isPropertyByte, isSign, run}
 use Rattle.load_text.specs.Lines.{lineOf, grow, linesOf, fault, saysNothing, nameEnd, whiteEnd, opening}
 use Rattle.load_text.proofs.Runs.{run-within}
 use Rattle.load_text.specs.declared.Opening.{Opening}
@@ -163,3 +163,50 @@ opening-inside l =
     by false true z h = a
     by false false true h = (a, omega (arith, sign-inside l (whiteEnd l (nameEnd l (whiteEnd l 0))) h))
     by false false false h = s
+
+pub drop-line : (i : ℕ) (t : List ℕ) → i ≤ length (lineOf t) → drop i (lineOf t) ≡ lineOf (drop i t)
+unfolding lineOf
+drop-line zero t h = refl
+drop-line (suc i) [] h = refl
+drop-line (suc i) (b ∷ bs) h = by (isNewline b) h (drop-line i bs)
+  where
+    by : (x : Bool) → suc i ≤ length (pick x [] (b ∷ lineOf bs)) → (i ≤ length (lineOf bs) → drop i (lineOf bs) ≡ lineOf (drop i bs))
+        → drop (suc i) (pick x [] (b ∷ lineOf bs)) ≡ lineOf (drop i bs)
+    by true l g = absurd (not-suc-le-zero l)
+    by false l g = g (omega arith)
+
+-- ---- a line in its text: classes without the newline, and without the 0 that is read past the end
+
+module _ (p : ℕ → Bool) (newline : p 10 ≡ false) where
+  -- a run of such bytes ends where the line does
+  run-line : (t : List ℕ) → run p (lineOf t) ≡ run p t
+  unfolding run lineOf
+  run-line [] = refl
+  run-line (b ∷ bs) = by (isNewline b) refl (p b) refl (run-line bs)
+    where
+      by : (x : Bool) → isNewline b ≡ x → (y : Bool) → p b ≡ y → run p (lineOf bs) ≡ run p bs → run p (pick x [] (b ∷ lineOf bs)) ≡ pick (p b) (suc (run p bs)) 0
+      by true e y f h = rw (ap p (eqb-true b 10 e) ∙ newline)
+      by false e y f h = rw h
+
+  pub run-at : (s : List ℕ) (from i : ℕ) → i ≤ length (lineOf (drop from s)) → run p (drop i (lineOf (drop from s))) ≡ run p (drop (from + i) s)
+  run-at s from i h = rw (drop-line i (drop from s) h, run-line (drop i (drop from s)), drop-drop i from s)
+
+  module _ (none : p 0 ≡ false) where
+    class-line : (t : List ℕ) (k : ℕ) → k ≤ length (lineOf t) → p (getD (lineOf t) k 0) ≡ p (getD t k 0)
+    unfolding lineOf
+    class-line [] k h = refl
+    class-line (b ∷ bs) zero h = by (isNewline b) refl
+      where
+        by : (x : Bool) → isNewline b ≡ x → p (getD (pick x [] (b ∷ lineOf bs)) 0 0) ≡ p b
+        by true e = none ∙ sym (ap p (eqb-true b 10 e) ∙ newline)
+        by false e = refl
+    class-line (b ∷ bs) (suc k) h = by (isNewline b) h (class-line bs k)
+      where
+        by : (x : Bool) → suc k ≤ length (pick x [] (b ∷ lineOf bs)) → (k ≤ length (lineOf bs) → p (getD (lineOf bs) k 0) ≡ p (getD bs k 0))
+            → p (getD (pick x [] (b ∷ lineOf bs)) (suc k) 0) ≡ p (getD bs k 0)
+        by true l g = absurd (not-suc-le-zero l)
+        by false l g = g (omega arith)
+
+    -- so a byte of the line, or the one past it, is of the class where that of the text is
+    pub class-at : (s : List ℕ) (from k : ℕ) → k ≤ length (lineOf (drop from s)) → p (getD (lineOf (drop from s)) k 0) ≡ p (getD s (from + k) 0)
+    class-at s from k h = class-line (drop from s) k h ∙ ap p (getD-drop from s k 0)

@@ -1,4 +1,4 @@
--- The laws of runs of bytes, of the first bad byte and of the line after some bytes, as loops go through them.
+-- The laws of runs of bytes, of the first bad byte and of the line and the column after some bytes, as loops go through them.
 use mathlib.Core.Path.{_≡_, ap}
 use mathlib.Core.List.{List, [], _∷_}
 use mathlib.Core.Bool.{Bool, true, false}
@@ -8,7 +8,7 @@ use lib.ListN.{length, getD, drop, drop-of-length-le, length-drop}
 use Rattle.base.proofs.Counting.{drop-more}
 use Rattle.base.specs.Folds.{pick}
 use Rattle.load_text.specs.Bytes.{isBad, isNewline, run}
-use Rattle.load_text.specs.Lines.{fault, badFrom, lineFrom}
+use Rattle.load_text.specs.Lines.{fault, badFrom, lineFrom, columnFrom}
 use Rattle.load_text.specs.declared.Verdict.the-variants.{Good, Bad}
 
 module _ (p : ℕ → Bool) (s : List ℕ) (k : ℕ) where
@@ -52,3 +52,13 @@ module _ (n : ℕ) (s : List ℕ) (k : ℕ) where
       → lineFrom n (drop k s) ≡ lineFrom (pick t (n + 1) n) (drop (k + 1) s)
   unfolding lineFrom
   line-next h e = rw (drop-more s k 0 h) (ap (λ (x : Bool). lineFrom (pick x (n + 1) n) (drop (k + 1) s)) e)
+
+module _ (k : ℕ) (s : List ℕ) (i : ℕ) where
+  pub column-end : length s ≤ i → columnFrom k (drop i s) ≡ k
+  unfolding columnFrom
+  column-end h = rw (drop-of-length-le s h)
+
+  pub column-next : {t : Bool} → i < length s → isNewline (getD s i 0) ≡ t
+      → columnFrom k (drop i s) ≡ columnFrom (pick t 1 (k + 1)) (drop (i + 1) s)
+  unfolding columnFrom
+  column-next h e = rw (drop-more s i 0 h) (ap (λ (x : Bool). columnFrom (pick x 1 (k + 1)) (drop (i + 1) s)) e)

@@ -2,4 +2,5 @@
 pub mod Strings
 pub mod Bytes
 pub mod Lines
+pub mod Offsets
 pub mod Examples

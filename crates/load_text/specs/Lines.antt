@@ -1,4 +1,4 @@
--- Trusted: "Reading a text": the lines, how a line begins, the first bad byte, and the line of an offset.
+-- Trusted: "Reading a text": the lines, how a line begins, the first bad byte, and the line and column of an offset.
 use Prim.Native.Nat.{ℕ, _+_}
 use mathlib.Core.Bool.{Bool, _||_}
 use mathlib.Core.List.{List, [], _∷_}
@@ -42,6 +42,15 @@ lineFrom k (b ∷ bs) = lineFrom (pick (isNewline b) (k + 1) k) bs
 -- the line of the byte at an offset: the line after the bytes before it, which from the text's end on are all
 unfoldable pub lineNumber : List ℕ → ℕ → ℕ
 lineNumber text at = lineFrom 1 (take at text)
+
+-- W-201: "the column, from 1": the column after these bytes, of which the first stands in column k; each byte counts as one
+unfoldable pub columnFrom : ℕ → List ℕ → ℕ
+columnFrom k [] = k
+columnFrom k (b ∷ bs) = columnFrom (pick (isNewline b) 1 (k + 1)) bs
+
+-- the column of the byte at an offset, "a missing byte counts as the one past its line"
+unfoldable pub columnNumber : List ℕ → ℕ → ℕ
+columnNumber text at = columnFrom 1 (take at text)
 
 -- "A line of white space only, or whose first other byte is `#`, says nothing"; a is the length of the leading white space
 abbrev pub saysNothing : List ℕ → ℕ → Bool

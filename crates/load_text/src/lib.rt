@@ -4,7 +4,7 @@ ghost use Prim.Native.Nat.{_+_};
 ghost use lib.ListN.{length, getD, take, drop};
 ghost use Rattle.load_text.specs.Strings.{same, partOf};
 ghost use Rattle.load_text.specs.Bytes.{isWhite, isBad, isPropertyByte, isNameByte, isDigit, isSign};
-ghost use Rattle.load_text.specs.Lines.{lineOf, badFrom, lineFrom, lineNumber, nameEnd, whiteEnd, opening};
+ghost use Rattle.load_text.specs.Lines.{lineOf, badFrom, lineFrom, lineNumber, columnFrom, columnNumber, nameEnd, whiteEnd, opening};
 
 // The longest name of a service, and so the longest word.
 pub const LONGEST_NAME: usize = 32;
@@ -226,6 +226,33 @@ pub fn line_number(s: &[u8], at: usize) -> usize
     ensures { λ r. ⌜ r ≡ lineNumber (now (s .entry)) at ⌝ }
 {
     line_after(head(s, at))
+}
+
+// The column after these bytes: each newline begins a line anew.
+fn column_after(s: &[u8]) -> usize
+    ensures { λ r. ⌜ r ≡ columnFrom 1 (now (s .entry)) ⌝ }
+{
+    let mut column: usize = 1;
+    let mut i: usize = 0;
+    while i < s.len() {
+        let next = i + 1;
+        let more = column + 1;
+        let ends = s[i] == b'\n';
+        if ends {
+            column = 1;
+        } else {
+            column = more;
+        }
+        i = next;
+    }
+    column
+}
+
+// The column of the byte at an offset, from 1; at a line's end the one past its bytes.
+pub fn column_number(s: &[u8], at: usize) -> usize
+    ensures { λ r. ⌜ r ≡ columnNumber (now (s .entry)) at ⌝ }
+{
+    column_after(head(s, at))
 }
 
 // How a line begins.

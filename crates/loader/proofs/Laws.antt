@@ -22,6 +22,7 @@ use Rattle.loader.specs.Short.{Short}
 use Rattle.loader.specs.Texts.{descriptionsFrom, descriptionsOn, noDescriptions}
 use Rattle.loader.specs.declared.Descriptions.{Descriptions}
 use Rattle.load_lent.specs.Checks.{longestText, longestTexts, sizesFrom}
+use Rattle.load_lent.specs.Refusals.{bare}
 use Rattle.load_lent.specs.declared.Answer.{Answer}
 use Rattle.load_lent.specs.declared.Answer.the-variants.{Accepted, Refused}
 
@@ -29,9 +30,9 @@ use Rattle.load_lent.specs.declared.Answer.the-variants.{Accepted, Refused}
 
 abbrev Passes : Answer → Type 0
 Passes Accepted = Unit {0}
-Passes (Refused k s l) = ⊥
+Passes (Refused k s l c) = ⊥
 
-refused-not-accepted : {k s l : ℕ} → Refused k s l ≡ Accepted → ⊥
+refused-not-accepted : {k s l c : ℕ} → Refused k s l c ≡ Accepted → ⊥
 refused-not-accepted e = subst Passes (sym e) tt
 
 sizes-from : (text : ℕ → List ℕ) (t j m i : ℕ) → sizesFrom text t j m ≡ Accepted → j ≤ i → i < j + m → length (text i) ≤ longestText
@@ -42,7 +43,7 @@ sizes-from text t j (suc m) i e a b =
     (λ r k. sizes-from text (t + length (text j)) (j + 1) m i r (omega arith) (omega arith))
   where
     by : (x y : Bool) → ltb longestText (length (text j)) ≡ x
-        → pick (x || y) (Refused 5 j 0) (sizesFrom text (t + length (text j)) (j + 1) m) ≡ Accepted
+        → pick (x || y) (bare 5 j) (sizesFrom text (t + length (text j)) (j + 1) m) ≡ Accepted
         → (sizesFrom text (t + length (text j)) (j + 1) m ≡ Accepted → j < i → length (text i) ≤ longestText) → length (text i) ≤ longestText
     by true y q r on = absurd (refused-not-accepted r)
     by false true q r on = absurd (refused-not-accepted r)

@@ -36,7 +36,7 @@ module _ (buffer : List ℕ) where
   pub pass-on : {a : Answer} {o x : Outcome} → a ≡ Accepted → o ≡ x → o ≡ passed buffer a x
   pass-on {a} {o} {x} e q = q ∙ sym (ap (λ (b : Answer). passed buffer b x) e)
 
-  pub pass-not : {a : Answer} {k s l : ℕ} (x : Outcome) {r : Loaded} → a ≡ Refused k s l → r ≡ refused a
+  pub pass-not : {a : Answer} {k s l c : ℕ} (x : Outcome) {r : Loaded} → a ≡ Refused k s l c → r ≡ refused a
       → record { loaded = r; buffer = buffer } ≡ passed buffer a x
   pass-not x e q =
       ap (λ (y : Loaded). record { loaded = y; buffer = buffer }) q
@@ -106,7 +106,7 @@ module _ (name text : ℕ → List ℕ) (buffer : List ℕ) (n : ℕ) where
     pub linked-on : m .answer ≡ Accepted → {o : Outcome} → o ≡ acyclic text buffer n ds (m .services) → o ≡ made
     linked-on a q = pass-on buffer a q ∙ made-way
 
-    pub linked-not : {k s l : ℕ} → m .answer ≡ Refused k s l → {r : Loaded} → r ≡ refused (m .answer)
+    pub linked-not : {k s l c : ℕ} → m .answer ≡ Refused k s l c → {r : Loaded} → r ≡ refused (m .answer)
         → record { loaded = r; buffer = buffer } ≡ made
     linked-not a q = pass-not buffer _ a q ∙ made-way
 
@@ -122,7 +122,7 @@ module _ (name text : ℕ → List ℕ) (buffer : List ℕ) (n : ℕ) where
         → o ≡ told
     read-on a q = pass-on buffer a q ∙ told-way
 
-    pub read-not : {k s l : ℕ} → d .answer ≡ Refused k s l → {r : Loaded} → r ≡ refused (d .answer)
+    pub read-not : {k s l c : ℕ} → d .answer ≡ Refused k s l c → {r : Loaded} → r ≡ refused (d .answer)
         → record { loaded = r; buffer = buffer } ≡ told
     read-not a q = pass-not buffer _ a q ∙ told-way
 
@@ -132,7 +132,7 @@ module _ (name text : ℕ → List ℕ) (buffer : List ℕ) (n : ℕ) where
   texts = withDescriptions name text buffer n (descriptionsFrom text noDescriptions 0 n)
 
   module _ {a : Answer} (e : a ≡ sizesFrom text 0 0 n) where
-    pub sizes-not : {k s l : ℕ} → a ≡ Refused k s l → {r : Loaded} → r ≡ refused a → record { loaded = r; buffer = buffer } ≡ loadTexts name text n buffer
+    pub sizes-not : {k s l c : ℕ} → a ≡ Refused k s l c → {r : Loaded} → r ≡ refused a → record { loaded = r; buffer = buffer } ≡ loadTexts name text n buffer
     unfolding loadTexts
     sizes-not g q = pass-not buffer texts g q ∙ ap (λ (b : Answer). passed buffer b texts) e
 
@@ -141,7 +141,7 @@ module _ (name text : ℕ → List ℕ) (buffer : List ℕ) (n : ℕ) where
     sizes-on g q = pass-on buffer (sym e ∙ g) q
 
   module _ {a : Answer} (e : a ≡ namesFrom name 0 n) where
-    pub names-not : {k s l : ℕ} → a ≡ Refused k s l → {r : Loaded} → r ≡ refused a → record { loaded = r; buffer = buffer } ≡ loadSet name text n buffer
+    pub names-not : {k s l c : ℕ} → a ≡ Refused k s l c → {r : Loaded} → r ≡ refused a → record { loaded = r; buffer = buffer } ≡ loadSet name text n buffer
     unfolding loadSet
     names-not g q = pass-not buffer (loadTexts name text n buffer) g q ∙ ap (λ (b : Answer). passed buffer b (loadTexts name text n buffer)) e
 
@@ -190,14 +190,14 @@ setLoaded lent ends buffer = record {
   buffer = sets buffer 0 (setBytes lent ends);
 }
 
-module _ (P : Outcome → Type 0) (buffer : List ℕ) (refused : (k s l : ℕ) → P (refusedWith buffer (Refused k s l))) where
+module _ (P : Outcome → Type 0) (buffer : List ℕ) (refused : (k s l c : ℕ) → P (refusedWith buffer (Refused k s l c))) where
   after-pass : (a : Answer) (o : Outcome) → P o → P (passed buffer a o)
   after-pass Accepted o h = h
-  after-pass (Refused k s l) o h = refused k s l
+  after-pass (Refused k s l c) o h = refused k s l c
 
   after-test : (b : Bool) (k s : ℕ) (o : Outcome) → (b ≡ true → P o) → P (tested buffer b k s o)
   after-test true k s o h = h refl
-  after-test false k s o h = refused k s 0
+  after-test false k s o h = refused k s 0 0
 
   pub every-load : (lent ends : List ℕ)
       → (serviceCount ends ≤ maxServices → leb (serviceCount ends) (lowestCyclic (setServices lent ends) (serviceCount ends)) ≡ true → P (setLoaded lent ends buffer))

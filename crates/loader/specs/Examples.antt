@@ -11,7 +11,7 @@ use Rattle.service.specs.Numbers.{settingsFrom}
 use Rattle.service.specs.Settings.{defaultSettings, process}
 use Rattle.load_text.specs.Strings.{bytes, same, indexFrom, partOf}
 use Rattle.load_text.specs.Bytes.{run}
-use Rattle.load_text.specs.Lines.{lineOf, linesOf, badFrom, lineFrom, lineNumber, opening}
+use Rattle.load_text.specs.Lines.{lineOf, linesOf, badFrom, lineFrom, lineNumber, columnFrom, columnNumber, opening}
 use Rattle.load_value.specs.Steps.{stepOf, bareStep}
 use Rattle.load_value.specs.Values.{faultFrom, marksFrom, sizesFrom as countFrom, scanOf, written, leading, wordOf}
 use Rattle.load_word.specs.Words.{flagOf, noOf, kindOf, signalNames, signalOf, nameBytes, isName}
@@ -105,17 +105,17 @@ examples =
     record { case = set (service "a" "" ∷ service "a" "" ∷ service "" "" ∷ []) 0; answer = bare 4 1 } ∷
     record { case = long "type=internal\n" 4082; answer = Accepted } ∷
     record { case = long "type=internal\n" 4083; answer = bare 5 0 } ∷
-    -- from here on a line where the text has the fault; a text's 7, 13 or 14 comes before the next text's 6
-    record { case = set (service "a" "bogus" ∷ service "b" "\u{1}" ∷ []) 0; answer = Refused 7 0 1 } ∷
-    record { case = set (service "a" "type=internal" ∷ service "b" "# \n\u{1}" ∷ []) 0; answer = Refused 6 1 2 } ∷
-    record { case = set (service "a" "\ncommand= \"x" ∷ []) 0; answer = Refused 8 0 2 } ∷
-    record { case = set (service "a" "command=x\\\n" ∷ []) 0; answer = Refused 9 0 1 } ∷
-    record { case = set (service "a" "options=x" ∷ []) 0; answer = Refused 10 0 1 } ∷
-    record { case = set (service "a" "restart=maybe" ∷ []) 0; answer = Refused 11 0 1 } ∷
-    record { case = set (service "a" "waits-for=a\nwaits-for=b\nwaits-for=c\nwaits-for=d\nwaits-for=e\nwaits-for=f\nwaits-for=g\nwaits-for=h\nwaits-for=i\nwaits-for=j\nwaits-for=k\nwaits-for=l\nwaits-for=m\nwaits-for=n\nwaits-for=o\nwaits-for=p\nwaits-for=q\n" ∷ []) 0; answer = Refused 12 0 17 } ∷
+    -- from here on a line and a column where the text has the fault; a text's 7, 13 or 14 comes before the next text's 6
+    record { case = set (service "a" "bogus" ∷ service "b" "\u{1}" ∷ []) 0; answer = Refused 7 0 1 6 } ∷
+    record { case = set (service "a" "type=internal" ∷ service "b" "# \n\u{1}" ∷ []) 0; answer = Refused 6 1 2 1 } ∷
+    record { case = set (service "a" "\ncommand= \"x" ∷ []) 0; answer = Refused 8 0 2 10 } ∷
+    record { case = set (service "a" "command=x\\\n" ∷ []) 0; answer = Refused 9 0 1 10 } ∷
+    record { case = set (service "a" "options=x" ∷ []) 0; answer = Refused 10 0 1 1 } ∷
+    record { case = set (service "a" "restart=maybe" ∷ []) 0; answer = Refused 11 0 1 9 } ∷
+    record { case = set (service "a" "waits-for=a\nwaits-for=b\nwaits-for=c\nwaits-for=d\nwaits-for=e\nwaits-for=f\nwaits-for=g\nwaits-for=h\nwaits-for=i\nwaits-for=j\nwaits-for=k\nwaits-for=l\nwaits-for=m\nwaits-for=n\nwaits-for=o\nwaits-for=p\nwaits-for=q\n" ∷ []) 0; answer = Refused 12 0 17 11 } ∷
     record { case = set (service "a" "depends-on=x" ∷ []) 0; answer = bare 13 0 } ∷
     record { case = set (service "a" "type=internal\ndepends-on=x" ∷ service "b" "type=process" ∷ []) 0; answer = bare 14 1 } ∷
-    record { case = set (service "a" "type=internal\n\nwaits-for=x\ndepends-on=y" ∷ []) 0; answer = Refused 15 0 3 } ∷
+    record { case = set (service "a" "type=internal\n\nwaits-for=x\ndepends-on=y" ∷ []) 0; answer = Refused 15 0 3 1 } ∷
     -- 1 and 2 are on a cycle, which 0 only reaches; 16 comes before 25
     record { case = set (service "a" "type=internal\ncommand=x\ndepends-on=b" ∷ service "b" "type=internal\ndepends-ms=c" ∷ service "c" "type=internal\nwaits-for=b" ∷ []) 0; answer = bare 16 1 } ∷
     record { case = set (service "a" "type=internal\nwaits-for=a" ∷ []) 0; answer = bare 16 0 } ∷
@@ -125,9 +125,9 @@ examples =
     []
 
 pub pair-loads : loadOf pair 30 ≡ pairLoaded
-unfolding lentOf endsFrom loadOf some first hasBit reach bytes same indexFrom partOf run lineOf linesOf badFrom lineFrom lineNumber opening stepOf bareStep faultFrom marksFrom countFrom scanOf written leading wordOf flagOf noOf kindOf signalNames signalOf nameBytes isName digitOf readOf decimalFrom timeEnd timeOf countEnd countOf propertyNames propertyOf settingOf settingsFrom valueAt wordAt known dependencyRead wordRead tokensRead propertyRead lineRead completion linesRead textRead risesTo positioned nameStart nameAt textAt find namesFrom sizesFrom descriptionsFrom linksFrom linksIn servicesFrom lowestCyclic commandBytes commandCount keptOf placesOf bytesFrom commandsFrom stored acyclic loadTexts loadSet load
+unfolding lentOf endsFrom loadOf some first hasBit reach bytes same indexFrom partOf run lineOf linesOf badFrom lineFrom lineNumber columnFrom columnNumber opening stepOf bareStep faultFrom marksFrom countFrom scanOf written leading wordOf flagOf noOf kindOf signalNames signalOf nameBytes isName digitOf readOf decimalFrom timeEnd timeOf countEnd countOf propertyNames propertyOf settingOf settingsFrom valueAt wordAt known dependencyRead wordRead tokensRead propertyRead lineRead completion linesRead textRead risesTo positioned nameStart nameAt textAt find namesFrom sizesFrom descriptionsFrom linksFrom linksIn servicesFrom lowestCyclic commandBytes commandCount keptOf placesOf bytesFrom commandsFrom stored acyclic loadTexts loadSet load
 pair-loads = refl
 
 pub examples-hold : map (λ e. answerOf (e .case)) examples ≡ map (λ e. e .answer) examples
-unfolding lentOf endsFrom loadOf answerOf some first hasBit reach bytes same indexFrom partOf run lineOf linesOf badFrom lineFrom lineNumber opening stepOf bareStep faultFrom marksFrom countFrom scanOf written leading wordOf flagOf noOf kindOf signalNames signalOf nameBytes isName digitOf readOf decimalFrom timeEnd timeOf countEnd countOf propertyNames propertyOf settingOf settingsFrom valueAt wordAt known dependencyRead wordRead tokensRead propertyRead lineRead completion linesRead textRead risesTo positioned nameStart nameAt textAt find namesFrom sizesFrom descriptionsFrom linksFrom linksIn servicesFrom lowestCyclic commandBytes commandCount keptOf placesOf bytesFrom commandsFrom stored acyclic loadTexts loadSet load
+unfolding lentOf endsFrom loadOf answerOf some first hasBit reach bytes same indexFrom partOf run lineOf linesOf badFrom lineFrom lineNumber columnFrom columnNumber opening stepOf bareStep faultFrom marksFrom countFrom scanOf written leading wordOf flagOf noOf kindOf signalNames signalOf nameBytes isName digitOf readOf decimalFrom timeEnd timeOf countEnd countOf propertyNames propertyOf settingOf settingsFrom valueAt wordAt known dependencyRead wordRead tokensRead propertyRead lineRead completion linesRead textRead risesTo positioned nameStart nameAt textAt find namesFrom sizesFrom descriptionsFrom linksFrom linksIn servicesFrom lowestCyclic commandBytes commandCount keptOf placesOf bytesFrom commandsFrom stored acyclic loadTexts loadSet load
 examples-hold = refl

@@ -37,7 +37,7 @@ refusedWith buffer a = record {
 -- the way on after a pass
 abbrev pub passed : List ℕ → Answer → Outcome → Outcome
 passed buffer Accepted on = on
-passed buffer (Refused n s l) on = refusedWith buffer (Refused n s l)
+passed buffer (Refused n s l c) on = refusedWith buffer (Refused n s l c)
 
 -- the way on after a test: else a refusal of no line
 abbrev pub tested : List ℕ → Bool → ℕ → ℕ → Outcome → Outcome

@@ -12,7 +12,7 @@ use Rattle.plain.specs.Loads.{Kept, countsOf, loadOf}
 use Rattle.plain.specs.declared.forms.Load.{Load}
 
 module _ (o : Loaded) (t x n : List ℕ) where
-  pub load-refused : {k s l : ℕ} → o .answer ≡ Refused k s l → {r : Load} → r ≡ loadOf (o .answer) 0 → Kept o t x n r t x n
+  pub load-refused : {k s l c : ℕ} → o .answer ≡ Refused k s l c → {r : Load} → r ≡ loadOf (o .answer) 0 → Kept o t x n r t x n
   load-refused e q = record { answer = q ∙ rw e; table = rw e; state = rw e; counts = rw e }
 
   pub load-written : o .answer ≡ Accepted → {t₁ x₁ n₁ : List ℕ} {y : State} {r : Load} → t₁ ≡ tableNumbers t (o .table)

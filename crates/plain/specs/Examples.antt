@@ -78,7 +78,7 @@ unfolding every check standAs recordFrom settingsFrom isRecord isSettings isStat
 nothing-told = (refl, refl, refl, refl, refl, refl, refl)
 
 -- a load's answers, and the counts of service 1: three tokens for its command, two for its stop-command
-pub load-told : (loadOf Accepted 2 ≡ record { number = 0; service = 0; line = 0; count = 2 })
-    × (loadOf (Refused 15 1 3) 0 ≡ record { number = 15; service = 1; line = 3; count = 0 })
+pub load-told : (loadOf Accepted 2 ≡ record { number = 0; service = 0; line = 0; column = 0; count = 2 })
+    × (loadOf (Refused 15 1 3 1) 0 ≡ record { number = 15; service = 1; line = 3; column = 1; count = 0 })
     × (counted (replicate 4 0) 1 (record { start = record { at = 0; count = 3 }; stop = record { at = 20; count = 2 } }) ≡ (0 ∷ 0 ∷ 3 ∷ 2 ∷ []))
 load-told = (refl, refl, refl)

@@ -17,12 +17,12 @@ use Rattle.plain.specs.declared.forms.Load.{Load}
 
 -- the answer to a load of n services
 abbrev pub loadOf : Answer → ℕ → Load
-loadOf Accepted n = record { number = 0; service = 0; line = 0; count = n }
-loadOf (Refused k s l) n = record { number = k; service = s; line = l; count = 0 }
+loadOf Accepted n = record { number = 0; service = 0; line = 0; column = 0; count = n }
+loadOf (Refused k s l c) n = record { number = k; service = s; line = l; column = c; count = 0 }
 
 abbrev pub isAccepted : Answer → Bool
 isAccepted Accepted = true
-isAccepted (Refused k s l) = false
+isAccepted (Refused k s l c) = false
 
 -- how many tokens the command and the stop-command of service s have, put into the counts
 abbrev pub counted : List ℕ → ℕ → Commands → List ℕ

@@ -30,10 +30,11 @@ pub struct Asked {
     pub time: u64,
 }
 
-// A load: 0 where it is accepted, with the count of services; else the refusal's number, service and line.
+// A load: 0 where it is accepted, with the count of services; else the refusal's number, service, line and column.
 pub struct Load {
     pub number: u64,
     pub service: u64,
     pub line: u64,
+    pub column: u64,
     pub count: u64,
 }

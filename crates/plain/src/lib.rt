@@ -222,16 +222,19 @@ fn load_of(answer: Answer, count: usize) -> Load
             number: 0,
             service: 0,
             line: 0,
+            column: 0,
             count: count as u64,
         },
         Answer::Refused {
             number,
             service,
             line,
+            column,
         } => Load {
             number: number as u64,
             service: service as u64,
             line: line as u64,
+            column: column as u64,
             count: 0,
         },
     }

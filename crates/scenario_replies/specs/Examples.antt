@@ -27,7 +27,7 @@ pub texts-stand : map (λ p. getD texts p []) (
     "ok" ∷
     "ok #" ∷
     "refused #" ∷
-    "refused # service # line #" ∷
+    "refused # service # line # column #" ∷
     "bad line #" ∷
     "quiet" ∷
     "moved #" ∷
@@ -60,8 +60,8 @@ refusal-told = refl
 pub none-told : queryReply (record { refusal = 0; timed = false; time = 0 }) ≡ replyOf 12 0 0
 none-told = refl
 
-pub load-told : loadReply (record { number = 0; service = 0; line = 0; count = 5 }) ≡ replyOf 1 5 0
+pub load-told : loadReply (record { number = 0; service = 0; line = 0; column = 0; count = 5 }) ≡ replyOf 1 5 0
 load-told = refl
 
-pub load-refused : loadReply (record { number = 7; service = 2; line = 3; count = 0 }) ≡ record { text = 3; first = 7; second = 2; third = 3 }
+pub load-refused : loadReply (record { number = 7; service = 2; line = 3; column = 4; count = 0 }) ≡ record { text = 3; first = 7; second = 2; third = 3; fourth = 4 }
 load-refused = refl

@@ -45,7 +45,7 @@ abbrev pub noEarliestText : ℕ
 noEarliestText = 12
 
 abbrev pub replyOf : ℕ → ℕ → ℕ → Reply
-replyOf t a b = record { text = t; first = a; second = b; third = 0 }
+replyOf t a b = record { text = t; first = a; second = b; third = 0; fourth = 0 }
 
 abbrev pub okReply : Reply
 okReply = replyOf okText 0 0
@@ -81,9 +81,9 @@ queryReply a =
     (pick (a .timed) (replyOf earliestText (a .time) 0) (replyOf noEarliestText 0 0))
     (refusedReply (a .refusal))
 
--- an accepted load has the count of services, a refused one its number, service and line
+-- an accepted load has the count of services, a refused one its number, service, line and column
 abbrev pub loadReply : Load → Reply
 loadReply l =
     pick (eqb (l .number) 0)
     (replyOf okCountText (l .count) 0)
-    (record { text = loadRefusedText; first = l .number; second = l .service; third = l .line })
+    (record { text = loadRefusedText; first = l .number; second = l .service; third = l .line; fourth = l .column })

@@ -11,7 +11,7 @@ texts = map bytes (
     "ok" ∷
     "ok #" ∷
     "refused #" ∷
-    "refused # service # line #" ∷
+    "refused # service # line # column #" ∷
     "bad line #" ∷
     "quiet" ∷
     "moved #" ∷

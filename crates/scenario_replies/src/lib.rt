@@ -10,10 +10,10 @@ ghost use Rattle.scenario_replies.specs.Replies.{replyOf, okReply, badRe
 //
 // In an answer # stands for a number, M for the members of a set, ~ for a number that is not shown, and another capital for the
 // name at that place of a list.
-pub const TEXTS: [u8; 694] = *b"ok
+pub const TEXTS: [u8; 703] = *b"ok
 ok #
 refused #
-refused # service # line #
+refused # service # line # column #
 bad line #
 quiet
 moved #
@@ -95,7 +95,7 @@ pub const SIGNALS: usize = 25;
 pub const RESTARTS: usize = 26;
 
 // The texts of the answers, each with its newline but the last.
-pub fn texts() -> [u8; 694]
+pub fn texts() -> [u8; 703]
     ensures { λ r. ⌜ r ≡ lined texts ⌝ }
 {
     TEXTS
@@ -136,12 +136,13 @@ pub fn places() -> [usize; 27]
     ]
 }
 
-// An answer: the place of its text, and up to three numbers.
+// An answer: the place of its text, and up to four numbers.
 pub struct Reply {
     pub text: usize,
     pub first: u64,
     pub second: u64,
     pub third: u64,
+    pub fourth: u64,
 }
 
 fn reply_of(text: usize, first: u64, second: u64) -> Reply
@@ -152,6 +153,7 @@ fn reply_of(text: usize, first: u64, second: u64) -> Reply
         first,
         second,
         third: 0,
+        fourth: 0,
     }
 }
 
@@ -248,6 +250,7 @@ pub fn load_reply(load: Load) -> Reply
     let count = load.count;
     let service = load.service;
     let line = load.line;
+    let column = load.column;
     if accepted {
         return reply_of(OK_COUNT, count, 0);
     }
@@ -256,5 +259,6 @@ pub fn load_reply(load: Load) -> Reply
         first: number,
         second: service,
         third: line,
+        fourth: column,
     }
 }

@@ -51,6 +51,7 @@ fn load_given(
         number: refusal_number(Refusal::NoRoom),
         service: 0,
         line: 0,
+        column: 0,
         count: 0,
     }
 }

@@ -17,7 +17,7 @@ use scenario_replies::refused_reply;
 pub(crate) type Places = [u64; 256];
 
 pub(crate) fn put_reply(out: &mut Output, at: usize, reply: Reply) -> usize {
-    let numbers = [reply.first, reply.second, reply.third];
+    let numbers = [reply.first, reply.second, reply.third, reply.fourth];
     put_line(out, at, reply.text, &numbers)
 }
 
