@@ -3,3 +3,5 @@ pub mod Values
 pub mod Loaded
 pub mod Guarantee
 pub mod Refusals
+pub mod Deciding
+pub mod Pointing

@@ -73,7 +73,7 @@ examples =
     record { text = "depends-on=a b"; verdict = refused 11 11; line = 1; column = 12 } ∷
     record { text = "depends-on=abcdefghijklmnopqrstuvwxyz-01234"; verdict = refused 13 0; line = 1; column = 1 } ∷
     record { text = "depends-on=abcdefghijklmnopqrstuvwxyz-012345"; verdict = refused 11 11; line = 1; column = 12 } ∷
-    -- a column counts bytes from the line's start, tabs and carriage returns too; where the byte is missing it is the one past the line
+    -- a column counts bytes from the line's start, tabs, carriage returns and each byte from 128 up; where the byte is missing it is the one past the line
     record { text = "type = \tprocess x"; verdict = refused 11 8; line = 1; column = 9 } ∷
     record { text = "type=  \r"; verdict = refused 11 8; line = 1; column = 9 } ∷
     record { text = "\n\ntype=  \r\n"; verdict = refused 11 10; line = 3; column = 9 } ∷
@@ -83,7 +83,7 @@ examples =
     record { text = "command=a#b"; verdict = refused 7 9; line = 1; column = 10 } ∷
     record { text = "x = \"ab"; verdict = refused 10 0; line = 1; column = 1 } ∷
     record { text = "command= \"a\" \"b"; verdict = refused 8 13; line = 1; column = 14 } ∷
-    record { text = "type=internal\n# \u{e9}\ncommand=\u{c3}\u{a9} \u{2} \u{1}\n"; verdict = refused 6 29; line = 3; column = 12 } ∷
+    record { text = "type=internal\n# é\ncommand=Ã© \u{2} \u{1}\n"; verdict = refused 6 29; line = 3; column = 12 } ∷
     -- a repeat is never the 17th
     record { text = "depends-on=a\ndepends-on=b\ndepends-on=c\ndepends-on=d\ndepends-on=e\ndepends-on=f\ndepends-on=g\ndepends-on=h\ndepends-on=i\ndepends-on=j\ndepends-on=k\ndepends-on=l\nwaits-for=a\nwaits-for=b\nwaits-for=c\nwaits-for=d\ndepends-on=\"a\"\ntype=internal"; verdict = Good; line = 1; column = 1 } ∷
     record { text = "depends-on=a\ndepends-on=b\ndepends-on=c\ndepends-on=d\ndepends-on=e\ndepends-on=f\ndepends-on=g\ndepends-on=h\ndepends-on=i\ndepends-on=j\ndepends-on=k\ndepends-on=l\nwaits-for=a\nwaits-for=b\nwaits-for=c\nwaits-for=d\ndepends-on=\"a\"\nwaits-for= e\n"; verdict = refused 12 230; line = 18; column = 12 } ∷

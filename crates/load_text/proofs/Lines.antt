@@ -10,7 +10,7 @@ use lib.ListN.{length, getD, take, drop, drop-of-length-le, length-drop, List·g
 use lib.Seq.{drop-drop, getD-drop}
 use Rattle.base.proofs.Counting.{drop-more}
 use borrow.Author.Tests.{eqb-true, le-leb, leb-true, leb-false}
-use Rattle.base.proofs.Tests.{no-ft}
+use Rattle.base.proofs.Tests.{not-both}
 use Rattle.base.specs.Folds.{pick}
 use Rattle.load_text.specs.Strings.{partOf}
 use Rattle.load_text.specs.Bytes.{isWhite, isNewline, isPropertyByte, isSign, run}
@@ -133,13 +133,13 @@ Inside n Nothing = Unit {0}
 Inside n (Named s) = (s .from ≤ n) × (s .value ≤ n)
 Inside n (Bad f) = f .at ≤ n
 
--- a sign is a byte of the line
-sign-inside : (l : List ℕ) (s : ℕ) → isSign (getD l s 0) ≡ true → s < length l
-sign-inside l s h = by (leb (length l) s) refl
+-- a byte of a class that 0 is not of is in the list
+pub class-inside : (p : ℕ → Bool) → p 0 ≡ false → (l : List ℕ) (k : ℕ) → p (getD l k 0) ≡ true → k < length l
+class-inside p none l k h = by (leb (length l) k) refl
   where
-    by : (t : Bool) → leb (length l) s ≡ t → s < length l
-    by false e = leb-false (length l) s e
-    by true e = no-ft (sym (ap isSign (List·getD-eq-default l 0 (leb-true (length l) s e))) ∙ h)
+    by : (t : Bool) → leb (length l) k ≡ t → k < length l
+    by false e = leb-false (length l) k e
+    by true e = absurd (not-both h (ap p (List·getD-eq-default l 0 (leb-true (length l) k e)) ∙ none))
 
 pub opening-inside : (l : List ℕ) → Inside (length l) (opening l)
 unfolding opening
@@ -161,7 +161,7 @@ opening-inside l =
         (Bad (fault 7 (whiteEnd l (nameEnd l (whiteEnd l 0))))))))
     by true y z h = tt
     by false true z h = a
-    by false false true h = (a, omega (arith, sign-inside l (whiteEnd l (nameEnd l (whiteEnd l 0))) h))
+    by false false true h = (a, omega (arith, class-inside isSign refl l (whiteEnd l (nameEnd l (whiteEnd l 0))) h))
     by false false false h = s
 
 pub drop-line : (i : ℕ) (t : List ℕ) → i ≤ length (lineOf t) → drop i (lineOf t) ≡ lineOf (drop i t)

@@ -2,7 +2,7 @@
 use Prim.Native.Nat.{ℕ, zero, suc, _+_, _-_, _≤_, _<_, zero-le, suc-le-suc}
 use mathlib.Core.Bool.{Bool, true, false, _||_}
 use mathlib.Core.List.{List, [], _∷_}
-use mathlib.Core.Path.{_≡_, refl, sym, ap, _∙_, subst}
+use mathlib.Core.Path.{_≡_, refl, sym, ap, _∙_}
 use native.Mathlib.Nat.{not-suc-le-zero}
 use native.Mathlib.Omega.{arith}
 use lib.Dec.{leb, leb·suc-zero, leb·suc-suc}
@@ -13,7 +13,7 @@ use Rattle.base.proofs.Tests.{no-tf}
 use Rattle.base.specs.Folds.{pick}
 use Rattle.load_text.specs.Bytes.{isNewline}
 use Rattle.load_text.specs.Lines.{grow, lineOf, linesOf, lineFrom, lineNumber, columnFrom, columnNumber}
-use Rattle.load_text.specs.Offsets.{takenBy, isEnd, Stands, LineAndColumnTell}
+use Rattle.load_text.specs.Offsets.{takenBy, isEnd, LineAndColumnTell}
 
 -- ---- where the count begins
 
@@ -222,3 +222,21 @@ line-ends (b ∷ bs) = by (isNewline b) refl (line-ends bs)
 
 pub line-ends-at : (s : List ℕ) (from : ℕ) → isEnd s (from + length (lineOf (drop from s))) ≡ true
 line-ends-at s from = sym (end-shift s from (length (lineOf (drop from s)))) ∙ line-ends (drop from s)
+
+-- and not before
+line-goes-on : (t : List ℕ) (k : ℕ) → k < length (lineOf t) → isEnd t k ≡ false
+unfolding lineOf
+line-goes-on [] k h = absurd (not-suc-le-zero h)
+line-goes-on (b ∷ bs) zero h = by (isNewline b) refl h
+  where
+    by : (t : Bool) → isNewline b ≡ t → 0 < length (pick t [] (b ∷ lineOf bs)) → isEnd (b ∷ bs) 0 ≡ false
+    by true e l = absurd (not-suc-le-zero l)
+    by false e l = end-first b bs ∙ e
+line-goes-on (b ∷ bs) (suc k) h = by (isNewline b) h (line-goes-on bs k)
+  where
+    by : (t : Bool) → suc k < length (pick t [] (b ∷ lineOf bs)) → (k < length (lineOf bs) → isEnd bs k ≡ false) → isEnd (b ∷ bs) (suc k) ≡ false
+    by true l g = absurd (not-suc-le-zero l)
+    by false l g = end-next b bs k ∙ g (omega arith)
+
+pub line-goes-on-at : (s : List ℕ) (from k : ℕ) → k < length (lineOf (drop from s)) → isEnd s (from + k) ≡ false
+line-goes-on-at s from k h = sym (end-shift s from k) ∙ line-goes-on (drop from s) k h

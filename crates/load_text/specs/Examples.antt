@@ -27,7 +27,7 @@ pub columns-past-newline : map (columnNumber (bytes "a\nb\n")) offsets ≡ 1 ∷
 unfolding bytes columnFrom columnNumber
 columns-past-newline = refl
 
--- a tab, a carriage return and a byte from 128 up are one column each
-pub columns-count-bytes : map (columnNumber (bytes "\t\u{c3}\u{a9}\r\n\r")) (0 ∷ 1 ∷ 2 ∷ 3 ∷ 4 ∷ 5 ∷ 6 ∷ []) ≡ 1 ∷ 2 ∷ 3 ∷ 4 ∷ 5 ∷ 1 ∷ 2 ∷ []
+-- a tab, a carriage return and each byte from 128 up are one column: here the two bytes of a character, written as the characters of their numbers
+pub columns-count-bytes : map (columnNumber (bytes "\tÃ©\r\n\r")) (0 ∷ 1 ∷ 2 ∷ 3 ∷ 4 ∷ 5 ∷ 6 ∷ []) ≡ 1 ∷ 2 ∷ 3 ∷ 4 ∷ 5 ∷ 1 ∷ 2 ∷ []
 unfolding bytes columnFrom columnNumber
 columns-count-bytes = refl

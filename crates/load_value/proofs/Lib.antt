@@ -4,3 +4,4 @@ pub mod Writing
 pub mod Loops
 pub mod Counts
 pub mod Spaced
+pub mod Faults
