@@ -191,8 +191,8 @@ fn sign_after(line: &[u8], from: usize) -> Result<usize, LineFault> {
 }
 
 /// The tokens of the value that begins here, from the left: split at white
-/// space neither quoted nor escaped. A misplaced `#` is 7 and decides it, so
-/// does a last backslash 9, and the quote that stays open 8.
+/// space neither quoted nor escaped. A misplaced `#` is 7, a last backslash 9,
+/// a quote that opens and is not closed 8.
 pub fn read_value(line: &[u8], from: usize) -> Result<Vec<Vec<u8>>, LineFault> {
     let mut tokens: Vec<Vec<u8>> = Vec::new();
     let mut token: Option<Vec<u8>> = None;
