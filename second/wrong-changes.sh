@@ -16,7 +16,7 @@ cd "$here" && cargo build --release --offline -q -j1 || exit 1
 
 # not_found NAME WHY
 not_found() {
-    echo "NOT FOUND $1 ($2)"
+    printf 'NOT FOUND %s (%s)\n' "$1" "$2"
     failed=1
 }
 
@@ -52,7 +52,7 @@ wrong() {
     "$here/target/release/compare" --brief --kind all --seed $seed --count $count \
         "$here/target/release" "$work/target/debug" > "$work/answer" 2> /dev/null
     if [ $? -eq 1 ]; then
-        echo "found $name: $(grep -m 1 '^difference' "$work/answer")"
+        printf 'found %s: %s\n' "$name" "$(grep -m 1 '^difference' "$work/answer")"
     else
         not_found "$name" "$(tail -n 1 "$work/answer")"
     fi
@@ -63,7 +63,7 @@ breaking() {
     change "$@" || return
     "$work/target/debug/search" --seed $seed --seconds 20 > "$work/answer" 2> /dev/null
     if [ $? -eq 1 ]; then
-        echo "found $name: $(head -n 1 "$work/answer")"
+        printf 'found %s: %s\n' "$name" "$(head -n 1 "$work/answer")"
     else
         not_found "$name" "$(tail -n 1 "$work/answer")"
     fi

@@ -7,7 +7,7 @@ use super::{given, scenario, FixedCase};
 type Refused = (&'static [u8], u64, u64);
 
 /// Texts by the number that they are refused with.
-const TEXTS: [(u64, &[Refused]); 8] = [
+const TEXTS: [(u64, &[Refused]); 7] = [
     // The first bad byte.
     (
         6,
@@ -99,26 +99,6 @@ const TEXTS: [(u64, &[Refused]); 8] = [
             (b"\rtype=internal\r\n\rstart-timeout\r=\r1 2\r\n", 2, 18),
         ],
     ),
-    // The same, of a 17th dependency.
-    (
-        12,
-        &[
-            (
-                b"waits-for=a\nwaits-for=b\nwaits-for=c\nwaits-for=d\nwaits-for=e\nwaits-for=f\n\
-                  waits-for=g\nwaits-for=h\nwaits-for=i\nwaits-for=j\nwaits-for=k\nwaits-for=l\n\
-                  waits-for=m\nwaits-for=n\nwaits-for=o\nwaits-for=p\n\twaits-for : \x0bq # last",
-                17,
-                15,
-            ),
-            (
-                b"waits-for=a\nwaits-for=b\nwaits-for=c\nwaits-for=d\nwaits-for=e\nwaits-for=f\n\
-                  waits-for=g\nwaits-for=h\nwaits-for=i\nwaits-for=j\nwaits-for=k\nwaits-for=l\n\
-                  waits-for=m\nwaits-for=n\nwaits-for=o\nwaits-for=p\n\ndepends-on=\"a\"\n\n",
-                18,
-                12,
-            ),
-        ],
-    ),
     // The line of the property's name, column 1.
     (
         15,
@@ -147,6 +127,7 @@ pub fn columns() -> Vec<FixedCase> {
             cases.push(refused(&text.escape_ascii().to_string(), text, number, *line, *column));
         }
     }
+    cases.extend(seventeenth_dependencies());
     cases.extend(long_lines());
     cases.push(scenario(
         "the column: a quote in a comment opens nothing",
@@ -159,6 +140,17 @@ pub fn columns() -> Vec<FixedCase> {
         "refused 7 service 0 line 1 column 10\n",
     ));
     cases
+}
+
+/// A 17th dependency after 16 lines of one each: 12, at its name.
+fn seventeenth_dependencies() -> Vec<FixedCase> {
+    let sixteen: String = (0..16).map(|number| format!("waits-for=d{number}\n")).collect();
+    let last = format!("{sixteen}\twaits-for : \u{b}d16 # last");
+    let not_last = format!("{sixteen}\ndepends-on=\"d0\"\n\n");
+    vec![
+        refused("a 17th dependency on the last line", last.as_bytes(), 12, 17, 15),
+        refused("a 17th dependency of another kind", not_last.as_bytes(), 12, 18, 12),
+    ]
 }
 
 /// Lines that fill a text of 4,096 bytes, or nearly.

@@ -4,28 +4,28 @@
 use crate::loader::Refusal;
 use crate::text::{is_white_space, lines_of};
 
-/// A place in a text: a line from 0, and a byte of it from 0, or its length.
+/// A place in a text: a line from 0, and how many of its bytes stand before.
 struct Place<'a> {
     text: &'a [u8],
     lines: Vec<&'a [u8]>,
     line: usize,
-    byte: usize,
+    offset: usize,
 }
 
 impl Place<'_> {
     /// The byte, if it is not missing.
     fn byte(&self) -> Option<u8> {
-        self.lines[self.line].get(self.byte).copied()
+        self.lines[self.line].get(self.offset).copied()
     }
 
     /// What stands before it on its line.
     fn before(&self) -> &[u8] {
-        &self.lines[self.line][..self.byte]
+        &self.lines[self.line][..self.offset]
     }
 
     /// What stands after it on its line.
     fn after(&self) -> &[u8] {
-        self.lines[self.line].get(self.byte + 1..).unwrap_or_default()
+        self.lines[self.line].get(self.offset + 1..).unwrap_or_default()
     }
 
     fn is_after(&self, byte: u8) -> bool {
@@ -125,7 +125,7 @@ const ASPECTS: [Aspect; 24] = [
     Aspect {
         words: "past column 255",
         numbers: &[6, 7, 8, 9, 10, 11, 12],
-        holds: |place| place.byte >= 255,
+        holds: |place| place.offset >= 255,
     },
     // Before a name, and from a sign to its value, stands white space alone.
     Aspect {
@@ -196,8 +196,8 @@ pub fn holding(text: &[u8], refusal: &Refusal) -> Vec<String> {
     if !ALL.contains(&refusal.number) {
         return Vec::new();
     }
-    let (line, byte) = (refusal.line as usize - 1, refusal.column as usize - 1);
-    let place = Place { text, lines: lines_of(text), line, byte };
+    let (line, offset) = (refusal.line as usize - 1, refusal.column as usize - 1);
+    let place = Place { text, lines: lines_of(text), line, offset };
     ASPECTS
         .iter()
         .filter(|aspect| aspect.numbers.contains(&refusal.number) && (aspect.holds)(&place))
