@@ -16,7 +16,7 @@ cd "$here" && cargo build --release --offline -q -j1 || exit 1
 
 # not_found NAME WHY
 not_found() {
-    echo "NOT FOUND $1 ($2)"
+    printf 'NOT FOUND %s (%s)\n' "$1" "$2"
     failed=1
 }
 
@@ -52,7 +52,7 @@ wrong() {
     "$here/target/release/compare" --brief --kind all --seed $seed --count $count \
         "$here/target/release" "$work/target/debug" > "$work/answer" 2> /dev/null
     if [ $? -eq 1 ]; then
-        echo "found $name: $(grep -m 1 '^difference' "$work/answer")"
+        printf 'found %s: %s\n' "$name" "$(grep -m 1 '^difference' "$work/answer")"
     else
         not_found "$name" "$(tail -n 1 "$work/answer")"
     fi
@@ -63,7 +63,7 @@ breaking() {
     change "$@" || return
     "$work/target/debug/search" --seed $seed --seconds 20 > "$work/answer" 2> /dev/null
     if [ $? -eq 1 ]; then
-        echo "found $name: $(head -n 1 "$work/answer")"
+        printf 'found %s: %s\n' "$name" "$(head -n 1 "$work/answer")"
     else
         not_found "$name" "$(tail -n 1 "$work/answer")"
     fi
@@ -235,18 +235,18 @@ wrong "equal positions fall" loader.rs 's/if \*position < last {/if *position <=
 wrong "all names are held to 3 before any to 4" loader.rs \
     's/^        if parts\[..service\].iter().any(|earlier| earlier.name == part.name) {/        if parts[..service].iter().any(|earlier| earlier.name == part.name) \&\& parts.iter().all(|other| is_good_name(other.name)) {/'
 wrong "15 comes before the faults of later texts" loader.rs \
-    's/^        descriptions.push(description);/        if let Some(absent) = description.dependencies.iter().find(|it| !parts.iter().any(|part| part.name == it.name)) {\n            return Err(Refusal { number: 15, service: service as u64, line: absent.line });\n        }\n&/'
+    's/^        descriptions.push(description);/        if let Some(absent) = description.dependencies.iter().find(|it| !parts.iter().any(|part| part.name == it.name)) {\n            return Err(Refusal::of_absent(absent, service));\n        }\n&/'
 wrong "unused commands are not written" loader.rs \
     's/for command in \[&description.command, &description.stop_command\] {/for command in [\&description.command, if description.service_type == Some(crate::engine::ServiceType::Scripted) { \&description.stop_command } else { \&None }] {/'
 wrong "stop-command is written before command" loader.rs \
     's/for command in \[&description.command, &description.stop_command\] {/for command in [\&description.stop_command, \&description.command] {/'
 wrong "6 is sought line by line" text.rs \
     's/^    refuse_bad_bytes(text)?;//
-     s/^        let line_number = index as u64 + 1;/&\n        refuse_bad_bytes(line).map_err(|_| Fault { number: 6, line: line_number })?;/'
+     s/^        read_line(line, line_number,/        refuse_bad_bytes(line).map_err(|fault| Fault { line: line_number, ..fault })?;\n&/'
 wrong "a property name may hold an underscore" text.rs \
     's/byte.is_ascii_lowercase() || matches!(\*\*byte, b.-. | b.\..)/byte.is_ascii_lowercase() || matches!(**byte, b'"'-' | b'.' | b'_'"')/'
 wrong "a backslash in quotes is ordinary" text.rs \
-    's/^        if byte == b.\\\\. {/        if byte == 92 \&\& !quoted {/'
+    's/^        if byte == b.\\\\. {/        if byte == 92 \&\& open_quote.is_none() {/'
 wrong "an empty token is dropped" text.rs \
     's/^            tokens.extend(token.take());/            tokens.extend(token.take().filter(|token| !token.is_empty()));/'
 wrong "the 16 dependencies are of each kind" text.rs \
@@ -282,7 +282,7 @@ wrong "room that is just enough is too small" loader.rs \
 wrong "a repeated dependency counts twice" text.rs \
     's/^    if repeated {/    if repeated \&\& line == 0 {/'
 wrong "a comment may begin inside a token" text.rs \
-    's/if token.is_some() {/if token.is_some() \&\& value.is_empty() {/'
+    's/if token.is_some() {/if token.is_some() \&\& line.is_empty() {/'
 wrong "a vertical tab is a bad byte" text.rs \
     's/32 | 9 | 11 | 12 | 13/32 | 9 | 12 | 13/'
 wrong "a short fraction of a second is not filled up" text.rs \
@@ -290,8 +290,35 @@ wrong "a short fraction of a second is not filled up" text.rs \
 wrong "smooth-recovery may be yes" text.rs \
     's/if yes_or_no(only_token(&tokens)?)? {/if yes_or_no(only_token(\&tokens)?)? \&\& line == 0 {/'
 wrong "an unknown property is seen only after its value" text.rs \
-    's/let property = Property::from_name(name).ok_or(10u64)?;/let tokens = read_value(value)?;\n    let property = Property::from_name(name).ok_or(10u64)?;/
-     s/^    let tokens = read_value(value)?;$//'
+    '/^    let property = Property::from_name/{
+         h
+         d
+     }
+     /^    let tokens = read_value/G'
+
+# The column (W-201).
+wrong "columns are counted from 0" text.rs \
+    's/column: self.place as u64 + 1/column: self.place as u64/'
+wrong "a column does not begin anew at a line" text.rs \
+    's/fault.in_line(line_number)/Fault { column: 1 + (fault.place + text.split(|it| *it == 10).take(line_number as usize - 1).map(|it| it.len() + 1).sum::<usize>()) as u64, ..fault.in_line(line_number) }/'
+wrong "a column counts characters" text.rs \
+    's/fault.in_line(line_number)/Fault { column: 1 + line[..fault.place].iter().filter(|it| **it \& 0xc0 != 0x80).count() as u64, ..fault.in_line(line_number) }/'
+wrong "a tab is eight columns" text.rs \
+    's/fault.in_line(line_number)/Fault { column: 1 + line[..fault.place].iter().map(|it| if *it == 9 { 8 } else { 1 }).sum::<u64>(), ..fault.in_line(line_number) }/'
+wrong "7 is at the name's end where the sign is missing" text.rs \
+    's/^        _ => Err(LineFault::at(sign, 7)),/        None => Err(LineFault::at(from, 7)),\n&/'
+wrong "8 is at the last quote" text.rs \
+    's/LineFault::at(quote, 8)/LineFault::at(line.iter().rposition(|it| *it == 34).unwrap_or(quote), 8)/'
+wrong "8 is at the line's end" text.rs 's/LineFault::at(quote, 8)/LineFault::at(line.len(), 8)/'
+wrong "9 is after the backslash" text.rs 's/LineFault::at(place, 9)/LineFault::at(place + 1, 9)/'
+wrong "10 is at the sign" text.rs 's/LineFault::at(name, 10)/LineFault::at(sign, 10)/'
+wrong "10 is at the line's begin" text.rs 's/LineFault::at(name, 10)/LineFault::at(0, 10)/'
+wrong "11 is after the sign" text.rs \
+    's/let value = after_white_space(line, sign + 1);/let value = sign + 1;/'
+wrong "11 is after the sign where the value is missing" text.rs \
+    's/let value = after_white_space(line, sign + 1);/&\n    let value = if value == line.len() { sign + 1 } else { value };/'
+wrong "15 is at its value" loader.rs \
+    's/column: 1 }/column: dependency.kind.word().len() as u64 + 2 }/'
 
 # The small program.
 wrong "the program stops reading at 32,768 bytes" program.rs \

@@ -2,6 +2,8 @@
 //! that paper 01 gives: its worked examples, its limits, and one case for each
 //! of its readings that look right and are wrong.
 
+mod columns;
+
 use crate::case::{Case, Entry, Folder};
 
 pub struct FixedCase {
@@ -10,10 +12,10 @@ pub struct FixedCase {
     pub expected: Vec<u8>,
 }
 
-fn scenario(name: &str, input: &str, expected: &str) -> FixedCase {
+fn scenario(name: &str, input: &(impl AsRef<[u8]> + ?Sized), expected: &str) -> FixedCase {
     FixedCase {
         name: name.to_string(),
-        case: Case::Scenario(input.as_bytes().to_vec()),
+        case: Case::Scenario(input.as_ref().to_vec()),
         expected: expected.as_bytes().to_vec(),
     }
 }
@@ -49,6 +51,7 @@ pub fn fixed_cases() -> Vec<FixedCase> {
     cases.push(list_24());
     cases.push(good_lines());
     cases.extend(refused_lines());
+    cases.extend(columns::columns());
     cases.extend(orders());
     cases.extend(text_limit_scenarios());
     cases.extend(service_limit_scenarios());
@@ -188,91 +191,128 @@ fn times() -> FixedCase {
     )
 }
 
-/// Single lines, each the first of a text, and the number it is refused with.
+/// Single lines, each the first of a text, by the number they are refused with
+/// and the column.
 fn refused_lines() -> Vec<FixedCase> {
-    const LINES: [(u64, &[&str]); 6] = [
-        (6, &["\u{0}", "# \u{8}", "type=\"\u{e}\"", "\u{1f}", "command=a \u{7f}"]),
+    const LINES: [(u64, &[(&str, u64)]); 6] = [
+        (
+            6,
+            &[
+                ("\u{0}", 1),
+                ("# \u{8}", 3),
+                ("type=\"\u{e}\"", 7),
+                ("\u{1f}", 1),
+                ("command=a \u{7f}", 11),
+            ],
+        ),
         (
             7,
             &[
-                "Type=process",
-                "type2=process",
-                "command +=a",
-                "@include x",
-                "depends on: a",
-                "bogus",
-                "=a",
-                "type_=a",
-                "type",
-                "type internal",
-                "command=a#b",
-                "command=\"\"#",
-                "command=a\\ #",
-                "command=\" \"#",
-                "command=\\##",
-                "command=a#\\",
-                "type \\",
-                "\"type\"=a",
+                ("Type=process", 1),
+                ("type2=process", 5),
+                ("command +=a", 9),
+                ("@include x", 1),
+                ("depends on: a", 9),
+                ("bogus", 6),
+                ("=a", 1),
+                ("type_=a", 5),
+                ("type", 5),
+                ("type internal", 6),
+                ("command=a#b", 10),
+                ("command=\"\"#", 11),
+                ("command=a\\ #", 12),
+                ("command=\" \"#", 12),
+                ("command=\\##", 11),
+                ("command=a#\\", 10),
+                ("type \\", 6),
+                ("\"type\"=a", 1),
             ],
         ),
-        (8, &["command=\"", "command=a \"b # c", "command=\"a\\\"", "restart-delay=\"1"]),
-        (9, &["command=\\", "command=\"a\\", "command=a\\\\\\", "type=process\\"]),
-        (10, &["depends-on.d: a", "options=", ".=a", "-:", "typ=a", "types=a", "log-type=\""]),
+        (
+            8,
+            &[
+                ("command=\"", 9),
+                ("command=a \"b # c", 11),
+                ("command=\"a\\\"", 9),
+                ("restart-delay=\"1", 15),
+            ],
+        ),
+        (
+            9,
+            &[
+                ("command=\\", 9),
+                ("command=\"a\\", 11),
+                ("command=a\\\\\\", 12),
+                ("type=process\\", 13),
+            ],
+        ),
+        (
+            10,
+            &[
+                ("depends-on.d: a", 1),
+                ("options=", 1),
+                (".=a", 1),
+                ("-:", 1),
+                ("typ=a", 1),
+                ("types=a", 1),
+                ("log-type=\"", 1),
+            ],
+        ),
         (
             11,
             &[
-                "type=",
-                "type=# process",
-                "type=\"\"",
-                "type=process \"\"",
-                "type=process process",
-                "type=bgprocess",
-                "type=triggered",
-                "type=Process",
-                "command=",
-                "command=\"\"",
-                "command=\"\" a",
-                "stop-command=",
-                "stop-command=\"\" a",
-                "restart=Yes",
-                "restart=on-failure",
-                "restart=1",
-                "smooth-recovery=yes",
-                "smooth-recovery=true",
-                "smooth-recovery=",
-                "restart-delay=0086400",
-                "restart-delay=5.00000",
-                "restart-limit-interval=86401",
-                "restart-limit-interval=-1",
-                "start-timeout=1e3",
-                "start-timeout=1.",
-                "start-timeout=",
-                "stop-timeout=+1",
-                "stop-timeout=1 2",
-                "restart-limit-count=65536",
-                "restart-limit-count=000003",
-                "restart-limit-count=1.0",
-                "restart-limit-count=",
-                "term-signal=SIGTERM",
-                "term-signal=term",
-                "term-signal=",
-                "depends-on=",
-                "depends-on=a/b",
-                "depends-ms=a b",
-                "waits-for=\"\"",
-                "waits-for=nnnnnnnnnnnnnnnnnnnnnnnnnnnnnnnnn",
-                "restart-delay=86400.0001",
-                "restart-delay=.5",
-                "restart-delay=5.",
-                "restart-delay=0.00001",
+                ("type=", 6),
+                ("type=# process", 6),
+                ("type=\"\"", 6),
+                ("type=process \"\"", 6),
+                ("type=process process", 6),
+                ("type=bgprocess", 6),
+                ("type=triggered", 6),
+                ("type=Process", 6),
+                ("command=", 9),
+                ("command=\"\"", 9),
+                ("command=\"\" a", 9),
+                ("stop-command=", 14),
+                ("stop-command=\"\" a", 14),
+                ("restart=Yes", 9),
+                ("restart=on-failure", 9),
+                ("restart=1", 9),
+                ("smooth-recovery=yes", 17),
+                ("smooth-recovery=true", 17),
+                ("smooth-recovery=", 17),
+                ("restart-delay=0086400", 15),
+                ("restart-delay=5.00000", 15),
+                ("restart-limit-interval=86401", 24),
+                ("restart-limit-interval=-1", 24),
+                ("start-timeout=1e3", 15),
+                ("start-timeout=1.", 15),
+                ("start-timeout=", 15),
+                ("stop-timeout=+1", 14),
+                ("stop-timeout=1 2", 14),
+                ("restart-limit-count=65536", 21),
+                ("restart-limit-count=000003", 21),
+                ("restart-limit-count=1.0", 21),
+                ("restart-limit-count=", 21),
+                ("term-signal=SIGTERM", 13),
+                ("term-signal=term", 13),
+                ("term-signal=", 13),
+                ("depends-on=", 12),
+                ("depends-on=a/b", 12),
+                ("depends-ms=a b", 12),
+                ("waits-for=\"\"", 11),
+                ("waits-for=nnnnnnnnnnnnnnnnnnnnnnnnnnnnnnnnn", 11),
+                ("restart-delay=86400.0001", 15),
+                ("restart-delay=.5", 15),
+                ("restart-delay=5.", 15),
+                ("restart-delay=0.00001", 15),
             ],
         ),
     ];
     let mut cases = Vec::new();
     for (number, lines) in LINES {
-        for line in lines {
+        for (line, column) in lines {
             let input = format!("service a\n|{line}\n|type=internal\nload 0\n");
-            let refused = format!("refused {number} service 0 line 1\n");
+            let refused = format!("refused {number} service 0 line 1 column {column}\n");
             cases.push(scenario(&format!("the line {}", line.escape_debug()), &input, &refused));
         }
     }
@@ -314,40 +354,48 @@ fn orders() -> Vec<FixedCase> {
     };
     let long = format!("!{}\n", "#".repeat(4_097));
     let cases: [(&str, &[&str], &str); 20] = [
-        ("1 before 3", &[&many], "1 service 0 line 0"),
-        ("4 before 3", &["service a\nservice a\nservice \n"], "4 service 1 line 0"),
-        ("3 before 5", &["service a\n", &long, "service \n"], "3 service 1 line 0"),
-        ("5 before 6", &["service a\n|\u{1}\nservice b\n", &long], "5 service 1 line 0"),
-        ("6 before 7", &["service a\n|bogus\n|\n|# \u{7f}\n"], "6 service 0 line 3"),
-        ("7 before 6", &["service a\n|bogus\nservice b\n|\u{1}\n"], "7 service 0 line 1"),
-        ("14 before 6", &["service a\n|type=process\nservice b\n|\u{1}\n"], "14 service 0 line 0"),
-        ("13 before 14", &["service a\n|stop-command=x\n"], "13 service 0 line 0"),
-        ("10 before 7, 8, 9", &["service a\n|options=a#\"\\\n"], "10 service 0 line 1"),
-        ("7 before 9", &["service a\n|command=a#\\\n"], "7 service 0 line 1"),
-        ("9 before 8", &["service a\n|command=\"a\\\n"], "9 service 0 line 1"),
-        ("8 before 11", &["service a\n|type=\"a\n"], "8 service 0 line 1"),
-        ("11 before 12", &["service a\n", &lines(16), "|waits-for=a/b\n"], "11 service 0 line 17"),
-        ("12 before 13", &["service a\n", &lines(17)], "12 service 0 line 17"),
-        ("13 before 15", &["service a\n|waits-for=b\n"], "13 service 0 line 0"),
+        ("1 before 3", &[&many], "1 service 0 line 0 column 0"),
+        ("4 before 3", &["service a\nservice a\nservice \n"], "4 service 1 line 0 column 0"),
+        ("3 before 5", &["service a\n", &long, "service \n"], "3 service 1 line 0 column 0"),
+        ("5 before 6", &["service a\n|\u{1}\nservice b\n", &long], "5 service 1 line 0 column 0"),
+        ("6 before 7", &["service a\n|bogus\n|\n|# \u{7f}\n"], "6 service 0 line 3 column 3"),
+        ("7 before 6", &["service a\n|bogus\nservice b\n|\u{1}\n"], "7 service 0 line 1 column 6"),
+        (
+            "14 before 6",
+            &["service a\n|type=process\nservice b\n|\u{1}\n"],
+            "14 service 0 line 0 column 0",
+        ),
+        ("13 before 14", &["service a\n|stop-command=x\n"], "13 service 0 line 0 column 0"),
+        ("10 before 7, 8, 9", &["service a\n|options=a#\"\\\n"], "10 service 0 line 1 column 1"),
+        ("7 before 9", &["service a\n|command=a#\\\n"], "7 service 0 line 1 column 10"),
+        ("9 before 8", &["service a\n|command=\"a\\\n"], "9 service 0 line 1 column 11"),
+        ("8 before 11", &["service a\n|type=\"a\n"], "8 service 0 line 1 column 6"),
+        (
+            "11 before 12",
+            &["service a\n", &lines(16), "|waits-for=a/b\n"],
+            "11 service 0 line 17 column 11",
+        ),
+        ("12 before 13", &["service a\n", &lines(17)], "12 service 0 line 17 column 11"),
+        ("13 before 15", &["service a\n|waits-for=b\n"], "13 service 0 line 0 column 0"),
         (
             "7 before 15",
             &["service a\nGOOD\n|waits-for=c\nservice b\n|bogus\n"],
-            "7 service 1 line 1",
+            "7 service 1 line 1 column 6",
         ),
         (
             "15 before 16",
             &["service a\nGOOD\n|depends-on=a\nservice b\nGOOD\n|depends-ms=c\n"],
-            "15 service 1 line 2",
+            "15 service 1 line 2 column 1",
         ),
         (
             "15 by line, and a repeat has its first",
             &["service a\nGOOD\n|waits-for=c\n|depends-on=b\n|waits-for=c\n"],
-            "15 service 0 line 2",
+            "15 service 0 line 2 column 1",
         ),
         (
             "16 before 25",
             &["service a\n|type=process\n|command=a\n|waits-for=a\n"],
-            "16 service 0 line 0",
+            "16 service 0 line 0 column 0",
         ),
         (
             "16 names the lowest on a cycle",
@@ -355,7 +403,7 @@ fn orders() -> Vec<FixedCase> {
                 "service a\nGOOD\n|depends-on=b\nservice b\nGOOD\n|depends-ms=c\n",
                 "service c\nGOOD\n|waits-for=b\n",
             ],
-            "16 service 1 line 0",
+            "16 service 1 line 0 column 0",
         ),
     ];
     cases
@@ -475,7 +523,7 @@ fn values() -> FixedCase {
          restart-limit-count=3 start-timeout=600000 stop-timeout=100000 term-signal=TERM \
          depends-on= depends-ms= waits-for= command=1 stop-command=0\n\
          tokens 61006200612020626300612062\
-         00\nrefused 7 service 3 line 2\n",
+         00\nrefused 7 service 3 line 2 column 10\n",
     )
 }
 
@@ -485,11 +533,13 @@ fn lent_positions() -> FixedCase {
         "load 0 -\nload 0\nload 0 0\nload 0 0 0\nservice a\n|type=internal\nload 0\n\
          load 0 1 15\nload 0 1\nload 0 1 14\nload 0 1 16\nload 0 15 1\nload 0 -\nload 0 1 1 1 15\n\
          load 0 18446744073709551615 15\nshow\nservice a/b\nload 0 1\n",
-        "ok 0\nok 0\nrefused 2 service 0 line 0\nrefused 3 service 0 line 0\n\
-         0 a internal\nok 1\n0 a internal\nok 1\nrefused 2 service 0 line 0\n\
-         refused 2 service 0 line 0\nrefused 2 service 0 line 0\nrefused 2 service 0 line 0\n\
-         refused 2 service 0 line 0\nrefused 3 service 1 line 0\nrefused 2 service 0 line 0\n\
-         bad line 16\nrefused 2 service 0 line 0\n",
+        "ok 0\nok 0\nrefused 2 service 0 line 0 column 0\n\
+         refused 3 service 0 line 0 column 0\n0 a internal\nok 1\n0 a internal\nok 1\n\
+         refused 2 service 0 line 0 column 0\nrefused 2 service 0 line 0 column 0\n\
+         refused 2 service 0 line 0 column 0\nrefused 2 service 0 line 0 column 0\n\
+         refused 2 service 0 line 0 column 0\nrefused 3 service 1 line 0 column 0\n\
+         refused 2 service 0 line 0 column 0\nbad line 16\n\
+         refused 2 service 0 line 0 column 0\n",
     )
 }
 
@@ -497,7 +547,8 @@ fn lent_room() -> FixedCase {
     scenario(
         "lent room: just enough and one too few",
         "service a\n|type=scripted\n|command=ab c\n|stop-command=d \"\"\nload 8\nload 7\nload 0\n",
-        "0 a scripted\nok 1\nrefused 25 service 0 line 0\nrefused 25 service 0 line 0\n",
+        "0 a scripted\nok 1\nrefused 25 service 0 line 0 column 0\n\
+         refused 25 service 0 line 0 column 0\n",
     )
 }
 
@@ -534,42 +585,40 @@ fn text_of(bytes: usize) -> String {
     format!("{begin}#{}", "x".repeat(bytes - begin.len() - 1))
 }
 
-fn as_scenario_lines(text: &str) -> String {
-    let mut lines = String::new();
-    let mut rest = text;
-    while let Some((line, after)) = rest.split_once('\n') {
-        lines.push_str(&format!("|{line}\n"));
-        rest = after;
-    }
-    if !rest.is_empty() {
-        lines.push_str(&format!("!{rest}\n"));
+/// A service as a scenario gives it.
+fn given(name: &str, text: impl AsRef<[u8]>) -> Vec<u8> {
+    let mut lines = format!("service {name}\n").into_bytes();
+    for line in text.as_ref().split_inclusive(|byte| *byte == b'\n') {
+        if line.ends_with(b"\n") {
+            lines.extend([b"|", line].concat());
+        } else {
+            lines.extend([b"!", line, b"\n"].concat());
+        }
     }
     lines
 }
 
 fn text_limit_scenarios() -> Vec<FixedCase> {
-    let one = |bytes| format!("service a\n{}load 0\n", as_scenario_lines(&text_of(bytes)));
-    let mut full = String::new();
+    let one = |bytes| [&given("a", text_of(bytes)), &b"load 0\n"[..]].concat();
+    let mut eight = Vec::new();
     let mut loaded = String::new();
     for service in 0..8 {
-        full.push_str(&format!("service s{service}\n{}", as_scenario_lines(&text_of(4_096))));
+        eight.extend(given(&format!("s{service}"), text_of(4_096)));
         loaded.push_str(&format!("{service} s{service} internal\n"));
     }
-    full.push_str("load 0\n!\n!x\nload 0\nservice last\nload 0\n");
-    loaded.push_str("ok 8\nrefused 5 service 7 line 0\nrefused 5 service 7 line 0\n");
-    let mut beyond = String::new();
-    for service in 0..8 {
-        beyond.push_str(&format!("service s{service}\n{}", as_scenario_lines(&text_of(4_096))));
-    }
-    beyond.push_str("service last\nload 0\n!#\nload 0\n");
+    let full = [&eight, &b"load 0\n!\n!x\nload 0\nservice last\nload 0\n"[..]].concat();
+    loaded.push_str("ok 8\n");
+    loaded.push_str("refused 5 service 7 line 0 column 0\n");
+    loaded.push_str("refused 5 service 7 line 0 column 0\n");
+    let beyond = [&eight, &b"service last\nload 0\n!#\nload 0\n"[..]].concat();
     vec![
         scenario("4,096 bytes", &one(4_096), "0 a internal\nok 1\n"),
-        scenario("4,097 bytes", &one(4_097), "refused 5 service 0 line 0\n"),
+        scenario("4,097 bytes", &one(4_097), "refused 5 service 0 line 0 column 0\n"),
         scenario("32,768 bytes in all, then a text too long", &full, &loaded),
         scenario(
             "32,769 bytes in all",
             &beyond,
-            "refused 13 service 8 line 0\nrefused 5 service 8 line 0\n",
+            "refused 13 service 8 line 0 column 0\nrefused 5 service 8 line 0 column 0\n",
         ),
     ]
 }
@@ -583,7 +632,7 @@ fn service_limit_scenarios() -> Vec<FixedCase> {
     }
     loaded.push_str("ok 32\n");
     let beyond = format!("{input}load 0\nservice s32\n|type=internal\nload 0\n");
-    let refused = format!("{loaded}refused 1 service 0 line 0\n");
+    let refused = format!("{loaded}refused 1 service 0 line 0 column 0\n");
     vec![
         scenario("32 services", &format!("{input}load 0\n"), &loaded),
         scenario("33 services", &beyond, &refused),
@@ -627,10 +676,25 @@ fn folder_cases() -> Vec<FixedCase> {
                 ("reader", file(READER_FILE)),
                 ("averager", file("type=process\ncommand=/bin/averager\ndepends-on: clock\n")),
             ],
-            "refused 15 service 1 line 3\n",
+            "refused 15 service 1 line 3 column 1\n",
+        ),
+        folder(
+            "a refusal in the second file, at a `#`",
+            "reader\naverager\n",
+            vec![
+                ("reader", file(READER_FILE)),
+                ("averager", file("type=process\n\tcommand = /bin/averager#1\n")),
+            ],
+            "refused 7 service 1 line 2 column 25\n",
+        ),
+        folder(
+            "a refusal at the end of a file without a last newline",
+            "reader\n",
+            vec![("reader", file("type=process\r\ncommand = \r"))],
+            "refused 11 service 0 line 2 column 12\n",
         ),
         folder("no names", "", vec![], "ok 0\n"),
-        folder("an empty name", "\n", vec![], "refused 3 service 0 line 0\n"),
+        folder("an empty name", "\n", vec![], "refused 3 service 0 line 0 column 0\n"),
         folder("a missing file", "reader\n", vec![], "unreadable 0\n"),
         folder(
             "a directory in place of a file",
@@ -638,15 +702,20 @@ fn folder_cases() -> Vec<FixedCase> {
             vec![("reader", file("bad")), ("averager", Entry::Directory)],
             "unreadable 1\n",
         ),
-        folder("33 names", &many, vec![], "refused 1 service 0 line 0\n"),
-        folder("a long name", &format!("{long}y\n"), vec![], "refused 3 service 0 line 0\n"),
+        folder("33 names", &many, vec![], "refused 1 service 0 line 0 column 0\n"),
+        folder(
+            "a long name",
+            &format!("{long}y\n"),
+            vec![],
+            "refused 3 service 0 line 0 column 0\n",
+        ),
         folder(
             "names are read from the first 65,536 bytes",
             &format!("{}\n{}", "x".repeat(65_536), "a\n".repeat(40)),
             vec![],
-            "refused 3 service 0 line 0\n",
+            "refused 3 service 0 line 0 column 0\n",
         ),
-        folder("a repeated name", "a\nb\na\n", vec![], "refused 4 service 2 line 0\n"),
+        folder("a repeated name", "a\nb\na\n", vec![], "refused 4 service 2 line 0 column 0\n"),
         folder(
             "a file of 4,096 bytes",
             "a\n",
@@ -657,7 +726,7 @@ fn folder_cases() -> Vec<FixedCase> {
             "a file of 4,097 bytes",
             "a\n",
             vec![("a", file(&text_of(4_097)))],
-            "refused 5 service 0 line 0\n",
+            "refused 5 service 0 line 0 column 0\n",
         ),
         folder(
             "texts of 32,768 bytes, and a missing file",
@@ -669,7 +738,7 @@ fn folder_cases() -> Vec<FixedCase> {
             "texts that pass 32,768 bytes, and a missing file after",
             &format!("{eight}missing\n"),
             past_the_total,
-            "refused 5 service 0 line 0\n",
+            "refused 5 service 0 line 0 column 0\n",
         ),
     ]
 }

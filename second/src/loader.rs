@@ -5,27 +5,38 @@
 //! and line; 16; 25."
 
 use crate::engine::types::{Service, Table, PLACES};
-use crate::text::{is_good_name, read_text, Description};
+use crate::text::{is_good_name, read_text, Dependency, Description, Fault};
 
 /// The most bytes of one text, and of all texts together.
 pub const LONGEST_TEXT: usize = 4_096;
 pub const LONGEST_TOTAL: usize = 32_768;
 
-/// A load refusal carries service number and line.
+/// A load refusal carries service number, line and column (W-201).
 #[derive(Clone, Copy, PartialEq, Eq, Debug)]
 pub struct Refusal {
     pub number: u64,
     pub service: u64,
     pub line: u64,
+    pub column: u64,
 }
 
 impl Refusal {
     fn of_set(number: u64) -> Refusal {
-        Refusal { number, service: 0, line: 0 }
+        Refusal::of_service(number, 0)
     }
 
     fn of_service(number: u64, service: usize) -> Refusal {
-        Refusal { number, service: service as u64, line: 0 }
+        Refusal { number, service: service as u64, line: 0, column: 0 }
+    }
+
+    fn of_text(fault: Fault, service: usize) -> Refusal {
+        let Fault { number, line, column } = fault;
+        Refusal { number, service: service as u64, line, column }
+    }
+
+    /// Number 15 carries the line that names the absent service, and column 1.
+    fn of_absent(dependency: &Dependency, service: usize) -> Refusal {
+        Refusal { number: 15, service: service as u64, line: dependency.line, column: 1 }
     }
 }
 
@@ -50,11 +61,7 @@ pub fn load(bytes: &[u8], positions: &[u64], buffer: &mut [u8]) -> Result<Loaded
     refuse_lengths(&parts)?;
     let mut descriptions = Vec::new();
     for (service, part) in parts.iter().enumerate() {
-        let description = read_text(part.text).map_err(|fault| Refusal {
-            number: fault.number,
-            service: service as u64,
-            line: fault.line,
-        })?;
+        let description = read_text(part.text).map_err(|fault| Refusal::of_text(fault, service))?;
         descriptions.push(description);
     }
     let table = table_of(&parts, &descriptions)?;
@@ -133,8 +140,7 @@ fn table_of(parts: &[Part], descriptions: &[Description]) -> Result<Table, Refus
         for dependency in &description.dependencies {
             let found = parts.iter().position(|part| part.name == dependency.name);
             let Some(number) = found else {
-                let line = dependency.line;
-                return Err(Refusal { number: 15, service: service as u64, line });
+                return Err(Refusal::of_absent(dependency, service));
             };
             place.dependencies_mut(dependency.kind).holds[number] = true;
         }

@@ -112,6 +112,6 @@ pub fn loaded_lines(names: &[&[u8]], table: &crate::engine::Table) -> Vec<u8> {
 }
 
 pub fn refusal_line(refusal: Refusal) -> String {
-    let Refusal { number, service, line } = refusal;
-    format!("refused {number} service {service} line {line}\n")
+    let Refusal { number, service, line, column } = refusal;
+    format!("refused {number} service {service} line {line} column {column}\n")
 }

@@ -4,11 +4,37 @@
 
 use crate::engine::types::*;
 
-/// A fault in a text: its number and line; line 0 for 13 and 14.
+/// A fault in a text: its number, and the line and column, both from 1, of the
+/// byte that decided it; line and column 0 for 13 and 14.
 #[derive(Clone, Copy, PartialEq, Eq, Debug)]
 pub struct Fault {
     pub number: u64,
     pub line: u64,
+    pub column: u64,
+}
+
+impl Fault {
+    fn of_text(number: u64) -> Fault {
+        Fault { number, line: 0, column: 0 }
+    }
+}
+
+/// A fault in a line: its number, and the place, from 0, of the byte that
+/// decided it. A missing byte has the place past the line, its length.
+#[derive(Clone, Copy, PartialEq, Eq, Debug)]
+pub struct LineFault {
+    pub number: u64,
+    pub place: usize,
+}
+
+impl LineFault {
+    fn at(place: usize, number: u64) -> LineFault {
+        LineFault { number, place }
+    }
+
+    fn in_line(self, line: u64) -> Fault {
+        Fault { number: self.number, line, column: self.place as u64 + 1 }
+    }
 }
 
 /// A dependency as it stands in a text, with the line that first names it.
@@ -85,22 +111,21 @@ pub fn is_good_name(name: &[u8]) -> bool {
 pub fn read_text(text: &[u8]) -> Result<Description, Fault> {
     refuse_bad_bytes(text)?;
     let mut description = Description::unsaid();
-    for (index, line) in lines_of(text).into_iter().enumerate() {
-        let line_number = index as u64 + 1;
+    for (line_number, line) in (1..).zip(lines_of(text)) {
         read_line(line, line_number, &mut description)
-            .map_err(|number| Fault { number, line: line_number })?;
+            .map_err(|fault| fault.in_line(line_number))?;
     }
     let Some(service_type) = description.service_type else {
-        return Err(Fault { number: 13, line: 0 });
+        return Err(Fault::of_text(13));
     };
     if service_type != ServiceType::Internal && description.command.is_none() {
-        return Err(Fault { number: 14, line: 0 });
+        return Err(Fault::of_text(14));
     }
     Ok(description)
 }
 
 /// A newline ends a line; the last may lack it.
-fn lines_of(text: &[u8]) -> Vec<&[u8]> {
+pub fn lines_of(text: &[u8]) -> Vec<&[u8]> {
     let mut lines: Vec<&[u8]> = text.split(|byte| *byte == b'\n').collect();
     if lines.last().is_some_and(|line| line.is_empty()) {
         lines.pop();
@@ -110,86 +135,94 @@ fn lines_of(text: &[u8]) -> Vec<&[u8]> {
 
 /// Number 6: the first bad byte of the text.
 fn refuse_bad_bytes(text: &[u8]) -> Result<(), Fault> {
-    let mut line = 1;
-    for byte in text {
-        if is_bad_byte(*byte) {
-            return Err(Fault { number: 6, line });
-        }
-        if *byte == b'\n' {
-            line += 1;
+    for (line_number, line) in (1..).zip(lines_of(text)) {
+        if let Some(place) = line.iter().position(|byte| is_bad_byte(*byte)) {
+            return Err(LineFault::at(place, 6).in_line(line_number));
         }
     }
     Ok(())
 }
 
 /// "In a line: 7 for name and sign; 10; value from left (7, 9, at its end 8);
-/// 11; 12." Gives the number of the line's first fault.
-fn read_line(line: &[u8], line_number: u64, description: &mut Description) -> Result<(), u64> {
-    let rest = after_white_space(line);
-    if rest.is_empty() || rest[0] == b'#' {
+/// 11; 12." Gives the line's first fault. What decides 10 is the first byte of
+/// the name; 11 and 12, the first after the sign that is no white space.
+fn read_line(
+    line: &[u8],
+    line_number: u64,
+    description: &mut Description,
+) -> Result<(), LineFault> {
+    let name = after_white_space(line, 0);
+    if matches!(line.get(name), None | Some(b'#')) {
         return Ok(());
     }
-    let (name, value) = name_and_value(rest)?;
-    let property = Property::from_name(name).ok_or(10u64)?;
-    let tokens = read_value(value)?;
+    let name_end = after_name(line, name)?;
+    let sign = sign_after(line, name_end)?;
+    let property = Property::from_name(&line[name..name_end]).ok_or(LineFault::at(name, 10))?;
+    let tokens = read_value(line, sign + 1)?;
+    let value = after_white_space(line, sign + 1);
     set_property(property, tokens, line_number, description)
+        .map_err(|number| LineFault::at(value, number))
 }
 
-fn after_white_space(bytes: &[u8]) -> &[u8] {
-    let white = bytes.iter().take_while(|byte| is_white_space(**byte)).count();
-    &bytes[white..]
+/// The place of the first byte from here on that is no white space, or the
+/// line's length.
+fn after_white_space(line: &[u8], from: usize) -> usize {
+    from + line[from..].iter().take_while(|byte| is_white_space(**byte)).count()
 }
 
-/// A property name of one or more of a-z, `-` and `.`, optional white space,
-/// `=` or `:`; then the value. Anything else is 7.
-fn name_and_value(line: &[u8]) -> Result<(&[u8], &[u8]), u64> {
+/// The place after a property name, one or more of a-z, `-` and `.`; 7 where
+/// there is none.
+fn after_name(line: &[u8], from: usize) -> Result<usize, LineFault> {
     let is_name_byte = |byte: &&u8| byte.is_ascii_lowercase() || matches!(**byte, b'-' | b'.');
-    let length = line.iter().take_while(is_name_byte).count();
-    if length == 0 {
-        return Err(7);
-    }
-    let (name, rest) = line.split_at(length);
-    let rest = after_white_space(rest);
-    match rest.first() {
-        Some(b'=') | Some(b':') => Ok((name, &rest[1..])),
-        _ => Err(7),
+    match line[from..].iter().take_while(is_name_byte).count() {
+        0 => Err(LineFault::at(from, 7)),
+        length => Ok(from + length),
     }
 }
 
-/// The tokens of a value, from the left: split at white space neither quoted
-/// nor escaped. A misplaced `#` is 7, a last backslash 9, an open quote 8.
-pub fn read_value(value: &[u8]) -> Result<Vec<Vec<u8>>, u64> {
+/// The place of the sign, `=` or `:`, after optional white space; 7 where
+/// another byte, or none, stands in its place.
+fn sign_after(line: &[u8], from: usize) -> Result<usize, LineFault> {
+    let sign = after_white_space(line, from);
+    match line.get(sign) {
+        Some(b'=') | Some(b':') => Ok(sign),
+        _ => Err(LineFault::at(sign, 7)),
+    }
+}
+
+/// The tokens of the value that begins here, from the left: split at white
+/// space neither quoted nor escaped. A misplaced `#` is 7, a last backslash 9,
+/// a quote that opens and is not closed 8.
+pub fn read_value(line: &[u8], from: usize) -> Result<Vec<Vec<u8>>, LineFault> {
     let mut tokens: Vec<Vec<u8>> = Vec::new();
     let mut token: Option<Vec<u8>> = None;
-    let mut quoted = false;
-    let mut place = 0;
-    while place < value.len() {
-        let byte = value[place];
-        place += 1;
+    let mut open_quote: Option<usize> = None;
+    let mut place = from;
+    while place < line.len() {
+        let byte = line[place];
         if byte == b'\\' {
-            let Some(literal) = value.get(place) else {
-                return Err(9);
-            };
+            let literal = line.get(place + 1).ok_or(LineFault::at(place, 9))?;
             token.get_or_insert_with(Vec::new).push(*literal);
             place += 1;
         } else if byte == b'"' {
             token.get_or_insert_with(Vec::new);
-            quoted = !quoted;
-        } else if quoted {
+            open_quote = if open_quote.is_some() { None } else { Some(place) };
+        } else if open_quote.is_some() {
             token.get_or_insert_with(Vec::new).push(byte);
         } else if is_white_space(byte) {
             tokens.extend(token.take());
         } else if byte == b'#' {
             if token.is_some() {
-                return Err(7);
+                return Err(LineFault::at(place, 7));
             }
             break;
         } else {
             token.get_or_insert_with(Vec::new).push(byte);
         }
+        place += 1;
     }
-    if quoted {
-        return Err(8);
+    if let Some(quote) = open_quote {
+        return Err(LineFault::at(quote, 8));
     }
     tokens.extend(token);
     Ok(tokens)

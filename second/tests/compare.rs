@@ -31,12 +31,12 @@ fn shell_program(name: &str, lines: &str) -> String {
 
 #[test]
 fn a_program_does_not_differ_from_itself() {
-    let (status, written) = compare("--kind scenarios --count 130", [SIMULATE; 2]);
+    let (status, written) = compare("--kind scenarios --count 200", [SIMULATE; 2]);
     assert_eq!(status, Some(0));
-    assert_eq!(written, "compared 130 cases (124 fixed), no difference\n");
+    assert_eq!(written, "compared 200 cases (192 fixed), no difference\n");
     let (status, written) = compare("--kind folders --count 20", [CHECK_SERVICES; 2]);
     assert_eq!(status, Some(0));
-    assert_eq!(written, "compared 20 cases (14 fixed), no difference\n");
+    assert_eq!(written, "compared 20 cases (16 fixed), no difference\n");
 }
 
 #[test]

@@ -14,10 +14,10 @@ fn every_fixed_case_is_answered_as_the_paper_says() {
 }
 
 #[test]
-fn there_are_124_fixed_scenarios_and_14_fixed_folders() {
+fn there_are_192_fixed_scenarios_and_16_fixed_folders() {
     let cases = fixed_cases();
     let folders = cases.iter().filter(|fixed| matches!(fixed.case, Case::Folder(_))).count();
-    assert_eq!((cases.len() - folders, folders), (124, 14));
+    assert_eq!((cases.len() - folders, folders), (192, 16));
     let names: BTreeSet<String> = cases.iter().map(|fixed| fixed.name.to_string()).collect();
     assert_eq!(names.len(), cases.len());
 }

@@ -1,5 +1,6 @@
-//! The generator: every refusal, clause, rule, type, kind and signal comes to
-//! bear, and the same seed gives the same cases, today and later.
+//! The generator: every refusal, and every place of a text where one is met,
+//! clause, rule, type, kind and signal comes to bear, and the same seed gives
+//! the same cases, today and later.
 
 use second::generate::histogram::histogram;
 use second::generate::{generate, CaseKind};
@@ -7,7 +8,7 @@ use second::reduce::reduce;
 
 #[test]
 fn nothing_expected_is_missing_from_the_histogram() {
-    let counted = histogram(7, 400);
+    let counted = histogram(7, 2_000);
     assert_eq!(counted.missing(), Vec::<&String>::new());
 }
 
@@ -32,7 +33,7 @@ fn checksum(kind: CaseKind) -> u64 {
 /// changed, those are other cases: make the runs anew, and change these numbers.
 #[test]
 fn a_seed_gives_the_cases_that_it_gave_before() {
-    let before = [0xc2ff_757c_0793_2bbd, 0x0e23_777b_7c01_ba6c, 0x2ca5_b5f1_9fff_a56a];
+    let before = [0xc51c_64ed_4553_7ddb, 0x0e23_777b_7c01_ba6c, 0x024c_58b4_b3f9_1f99];
     assert_eq!(CaseKind::ALL.map(checksum), before);
 }
 

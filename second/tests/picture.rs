@@ -66,6 +66,13 @@ fn a_refusal_is_said_at_its_call() {
 }
 
 #[test]
+fn a_load_after_a_refused_one_is_drawn() {
+    let at_once = drawn(b"service a\n|type=internal\nload 9\nstart 0\n");
+    let then = drawn(b"service a\n!type=\nload 9\n|internal\nload 9\nstart 0\n");
+    assert_eq!(then, at_once);
+}
+
+#[test]
 fn answers_that_do_not_fit_are_said() {
     let scenario = b"service a\n|type=internal\nload 9\nstart 0\n";
     assert_eq!(

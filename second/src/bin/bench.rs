@@ -378,6 +378,7 @@ fn loads(count: usize, turns: u64) -> u64 {
                 sum = taken_up(sum, refusal.number);
                 sum = taken_up(sum, refusal.service);
                 sum = taken_up(sum, refusal.line);
+                sum = taken_up(sum, refusal.column);
             }
             Ok(table) => {
                 let service = &table.services[turn as usize % count];

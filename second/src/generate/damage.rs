@@ -1,16 +1,34 @@
 //! Damage to the texts of a set: one kind of fault for each number.
 
+use super::bad_lines::{bad_byte, bad_line, dressed};
 use super::sketch::{odd_name, plain_name};
-use super::texts::{filled_to, white, Given};
+use super::texts::{filled_to, Given};
+use crate::engine::Kind;
 use crate::random::Random;
-use crate::text::{is_bad_byte, is_white_space};
+use crate::text::{is_white_space, lines_of};
 
-/// Puts a line into a text at a random place.
+/// Puts a line into a text: as the first, as the last, or at any place.
 fn insert_line(random: &mut Random, text: &mut Vec<u8>, line: &[u8]) {
-    let mut lines: Vec<Vec<u8>> = text.split(|byte| *byte == b'\n').map(<[u8]>::to_vec).collect();
-    let place = random.below(lines.len() as u64 + 1) as usize;
-    lines.insert(place, line.to_vec());
-    *text = lines.join(&b'\n');
+    let count = lines_of(text).len();
+    let place = match random.below(3) {
+        0 => 0,
+        1 => count,
+        _ => random.below(count as u64 + 1) as usize,
+    };
+    insert_line_at(random, text, line, place);
+}
+
+/// Puts a line into a text at this place. A new last line may lack its newline.
+fn insert_line_at(random: &mut Random, text: &mut Vec<u8>, line: &[u8], place: usize) {
+    let mut lines = lines_of(text);
+    let is_last = place == lines.len();
+    let newline = if is_last { random.one_in(2) } else { text.ends_with(b"\n") };
+    lines.insert(place, line);
+    let mut longer = lines.join(&b'\n');
+    if newline {
+        longer.push(b'\n');
+    }
+    *text = longer;
 }
 
 /// Damages a set at this service so that, most often, this number is given.
@@ -32,22 +50,24 @@ pub fn damage(random: &mut Random, set: &mut Vec<Given>, place: usize, number: u
             }
         }
         5 => make_long(random, set, place),
-        6 => {
-            let bad: Vec<u8> = (0..=255).filter(|byte| is_bad_byte(*byte)).collect();
-            let bad = *random.pick(&bad);
+        6 if random.one_in(3) => {
             let at = random.below(set[place].text.len() as u64 + 1) as usize;
-            set[place].text.insert(at, bad);
+            set[place].text.insert(at, bad_byte(random));
         }
-        7..=11 => {
+        6..=11 => {
             let line = bad_line(random, number);
+            if random.one_in(6) {
+                // It is the only line.
+                set[place].text.clear();
+            }
             insert_line(random, &mut set[place].text, &line);
         }
         12 => many_dependencies(random, &mut set[place].text),
         13 => remove_lines(&mut set[place].text, b"type"),
         14 => remove_lines(&mut set[place].text, b"command"),
         15 => {
-            let kind = *random.pick(&["depends-on", "depends-ms", "waits-for"]);
-            insert_line(random, &mut set[place].text, format!("{kind}: absent").as_bytes());
+            let line = dependency_line(random, "absent");
+            insert_line(random, &mut set[place].text, &line);
         }
         16 => close_a_cycle(random, set, place),
         _ => change_a_byte(random, &mut set[place].text),
@@ -91,203 +111,33 @@ fn make_long(random: &mut Random, set: &mut Vec<Given>, place: usize) {
     }
 }
 
-/// Malformed lines (7).
-const MALFORMED: [&[u8]; 18] = [
-    b"bogus",
-    b"Type=process",
-    b"type2=process",
-    b"command +=a",
-    b"@include x",
-    b"depends on: a",
-    b"=a",
-    b"type",
-    b"type process",
-    b"command=a#b",
-    b"command=\"\"#",
-    b"command=a\\ #",
-    b"type=process#",
-    b"command=\"a\"#b",
-    b"command=#\\ a#\\",
-    b"\xffa=b",
-    b"type_=a",
-    b"command=a#\\",
-];
-
-/// A quote open at the line's end (8).
-const OPEN_QUOTE: [&[u8]; 6] = [
-    b"command=\"",
-    b"type=\"process",
-    b"command=a \"b # c",
-    b"command=\"a\\\"",
-    b"command=\"a#",
-    b"depends-on=a\"",
-];
-
-/// A backslash at the line's end (9).
-const LAST_BACKSLASH: [&[u8]; 6] = [
-    b"command=\\",
-    b"command=a b\\",
-    b"command=\"a\\",
-    b"type=process\\",
-    b"command=a\\\\\\",
-    b"restart-delay=\" \\",
-];
-
-/// Properties that paper 01 does not list (10).
-const UNKNOWN: [&[u8]; 9] = [
-    b"depends-on.d: a",
-    b"options=a",
-    b".=a",
-    b"-:",
-    b"typ=process",
-    b"types=process",
-    b"log-type=\"",
-    b"command-=#\\",
-    b"pid-file = a#b",
-];
-
-/// A line that gives this number, 7 to 11.
-pub fn bad_line(random: &mut Random, number: u64) -> Vec<u8> {
-    let line = match number {
-        7 if random.one_in(3) => changed_name(random),
-        7 => random.pick(&MALFORMED).to_vec(),
-        8 => random.pick(&OPEN_QUOTE).to_vec(),
-        9 => random.pick(&LAST_BACKSLASH).to_vec(),
-        10 if random.one_in(3) => changed_name(random),
-        10 => random.pick(&UNKNOWN).to_vec(),
-        _ => bad_value(random).as_bytes().to_vec(),
-    };
-    if random.one_in(3) {
-        let mut indented = white(random, 1);
-        indented.extend(line);
-        return indented;
-    }
-    line
+/// A dependency of any kind on this name.
+fn dependency_line(random: &mut Random, name: &str) -> Vec<u8> {
+    let kind = *random.pick(&["depends-on", "depends-ms", "waits-for"]);
+    dressed(random, format!("{kind}:{name}").as_bytes(), b"")
 }
 
-const PROPERTIES: [&str; 14] = [
-    "type",
-    "command",
-    "stop-command",
-    "restart",
-    "smooth-recovery",
-    "restart-delay",
-    "restart-limit-interval",
-    "restart-limit-count",
-    "start-timeout",
-    "stop-timeout",
-    "depends-on",
-    "depends-ms",
-    "waits-for",
-    "term-signal",
-];
-
-/// A line whose property name has a byte too many, too few, or another.
-fn changed_name(random: &mut Random) -> Vec<u8> {
-    const BYTES: &[u8] = b"abyz-._`{/,+0Z \"#\\\x80";
-    let mut line = random.pick(&PROPERTIES).as_bytes().to_vec();
-    let at = random.below(line.len() as u64) as usize;
-    match random.below(3) {
-        0 => {
-            line.remove(at);
-        }
-        1 => line[at] = *random.pick(BYTES),
-        _ => line.insert(at, *random.pick(BYTES)),
-    }
-    line.extend_from_slice(b"=5");
-    line
-}
-
-/// Any property with a value of any property, or a number of any form.
-fn any_value(random: &mut Random) -> String {
-    const WORDS: [&str; 22] = [
-        "process", "scripted", "internal", "yes", "true", "no", "false", "none", "HUP", "INT",
-        "TERM", "QUIT", "USR1", "USR2", "KILL", "0", "65535", "65536", "99999", "86400", "s0",
-        "\"\"",
-    ];
-    let property = random.pick(&PROPERTIES);
-    if random.one_in(2) {
-        return format!("{property}={}", random.pick(&WORDS));
-    }
-    let mut digits = |most: u64| -> String {
-        (0..random.below(most + 1)).map(|_| char::from(b'0' + random.below(10) as u8)).collect()
-    };
-    let (whole, fraction) = (digits(7), digits(6));
-    let point = *random.pick(&[".", "", "", "..", ","]);
-    format!("{property}={whole}{point}{fraction}")
-}
-
-/// The properties whose value is a time, and values outside its rule (11).
-const TIMED: [&str; 4] =
-    ["restart-delay", "restart-limit-interval", "start-timeout", "stop-timeout"];
-const BAD_TIMES: [&str; 13] = [
-    "86400.0001",
-    ".5",
-    "5.",
-    "0.00001",
-    "0086400",
-    "5.00000",
-    "86401",
-    "1e3",
-    "-1",
-    "+1",
-    "1 2",
-    "",
-    "999999",
-];
-
-/// Values outside the rules of the other properties (11).
-const BAD_VALUES: [&str; 27] = [
-    "type=bgprocess",
-    "type=Process",
-    "type=",
-    "type=process \"\"",
-    "type=\"\"",
-    "command=",
-    "command=\"\" a",
-    "command= # a",
-    "stop-command=",
-    "stop-command=\"\"",
-    "restart=Yes",
-    "restart=on-failure",
-    "restart=1",
-    "restart=",
-    "smooth-recovery=yes",
-    "smooth-recovery=true",
-    "restart-limit-count=65536",
-    "restart-limit-count=000003",
-    "restart-limit-count=-1",
-    "restart-limit-count=1.0",
-    "term-signal=SIGTERM",
-    "term-signal=term",
-    "term-signal=",
-    "depends-on=",
-    "depends-ms=a/b",
-    "waits-for=a b",
-    "depends-on=nnnnnnnnnnnnnnnnnnnnnnnnnnnnnnnnn",
-];
-
-/// A line whose value is outside its property's rule, or any value.
-fn bad_value(random: &mut Random) -> String {
-    if random.one_in(3) {
-        return any_value(random);
-    }
-    if random.one_in(3) {
-        return format!("{}={}", random.pick(&TIMED), random.pick(&BAD_TIMES));
-    }
-    random.pick(&BAD_VALUES).to_string()
-}
-
-/// 16 or 17 dependencies, and repeats that count once.
+/// 16 to 18 dependencies beside those of the text, and repeats that count once;
+/// or 17 in all, the last of them on the last line.
 fn many_dependencies(random: &mut Random, text: &mut Vec<u8>) {
-    let count = random.between(16, 18);
-    for dependency in 0..count {
-        let kind = *random.pick(&["depends-on", "depends-ms", "waits-for"]);
-        let line = format!("{kind}: d{dependency}");
-        insert_line(random, text, line.as_bytes());
-        if random.one_in(3) {
-            insert_line(random, text, line.as_bytes());
+    let at_the_end = random.one_in(2);
+    let count = if at_the_end { 16 } else { random.between(16, 18) };
+    if at_the_end {
+        for kind in Kind::ALL {
+            remove_lines(text, kind.word().as_bytes());
         }
+    }
+    for dependency in 0..count {
+        let line = dependency_line(random, &format!("d{dependency}"));
+        insert_line(random, text, &line);
+        if random.one_in(3) {
+            insert_line(random, text, &line);
+        }
+    }
+    if at_the_end {
+        let line = dependency_line(random, "last");
+        let count = lines_of(text).len();
+        insert_line_at(random, text, &line, count);
     }
 }
 

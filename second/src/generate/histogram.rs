@@ -1,11 +1,13 @@
-//! The histogram of the generator: how often each refusal number, each clause
-//! of list 24, each rule, type, kind and setting came to bear.
+//! The histogram of the generator: how often each refusal number, and where in
+//! a text, each clause of list 24, each rule, type, kind and setting came to
+//! bear.
 
-use super::{generate, CaseKind};
+use super::{generate, places, CaseKind};
 use crate::case::Case;
 use crate::engine::list24::{too_many_services, CLAUSES};
 use crate::engine::rules::{first_fitting, RULES};
 use crate::engine::{list24, Kind, Service, ServiceType, Signal, State, Table};
+use crate::loader::{load, parts_of};
 use crate::scenario::{lines_of, Runner, INPUT_BYTES};
 use std::collections::BTreeMap;
 
@@ -22,6 +24,7 @@ impl Histogram {
         for number in (1..=16).chain([25]) {
             histogram.expect(format!("load refused {number:02}"));
         }
+        places::expected().into_iter().for_each(|what| histogram.expect(what));
         for number in [1, 3, 4].into_iter().chain(5..=16) {
             histogram.expect(format!("folder refused {number:02}"));
         }
@@ -102,6 +105,7 @@ impl Histogram {
             ["bad", "line", _] => self.count("bad line".to_string()),
             ["refused", number, "service", ..] => {
                 self.count(format!("load refused {number:0>2}"));
+                self.count_place(&line, before);
             }
             ["refused", number] => {
                 self.count(format!("call refused {number:0>2}"));
@@ -118,6 +122,20 @@ impl Histogram {
                 }
             }
         }
+    }
+
+    /// Where in its text a refused load was decided, if it lent the services as
+    /// they are given and not at other positions.
+    fn count_place(&mut self, line: &str, before: &Runner) {
+        let (bytes, positions) = before.lent();
+        let own_positions = line.split(' ').count() == 2;
+        let (Ok(parts), Err(refusal), true) =
+            (parts_of(&bytes, &positions), load(&bytes, &positions, &mut []), own_positions)
+        else {
+            return;
+        };
+        let text = parts.get(refusal.service as usize).map_or(&b""[..], |part| part.text);
+        places::holding(text, &refusal).into_iter().for_each(|what| self.count(what));
     }
 
     /// The clause of list 24 that alone decides, if one does.

@@ -1,9 +1,11 @@
 //! The generator: one case for each kind, seed and index.
 
+pub mod bad_lines;
 pub mod builder;
 pub mod damage;
 pub mod folders;
 pub mod histogram;
+pub mod places;
 pub mod scenarios;
 pub mod sets;
 pub mod sketch;

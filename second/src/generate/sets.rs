@@ -9,12 +9,16 @@ use crate::random::Random;
 
 /// The numbers that damage to a set can bring about, those with many forms more
 /// often; 99 is a changed byte.
-const DAMAGES: [u64; 24] =
-    [1, 3, 4, 5, 6, 7, 7, 7, 8, 9, 10, 11, 11, 11, 11, 12, 13, 14, 15, 16, 16, 16, 99, 99];
+const DAMAGES: [u64; 48] = [
+    1, 3, 4, 4, 5, 5, 6, 6, 7, 7, 7, 7, 7, 8, 8, 9, 9, 10, 10, 11, 11, 11, 11, 11, 11, 11, 11, 11,
+    12, 12, 13, 13, 13, 14, 14, 14, 15, 15, 15, 16, 16, 16, 16, 16, 16, 16, 99, 99,
+];
 
-/// A set as it is handed over, damaged or not.
-pub fn given_set(random: &mut Random) -> Vec<Given> {
-    let size = if random.one_in(60) { 0 } else { set_size(random) };
+/// The numbers that carry a line and a column, in the same way.
+const PLACED: [u64; 11] = [6, 6, 7, 7, 8, 9, 10, 11, 11, 12, 15];
+
+/// A set of so many services with good texts.
+fn good_set(random: &mut Random, size: usize) -> Vec<Given> {
     let manner =
         Manner { odd_names: true, odd_times: true, unused_settings: true, zero_timeouts: true };
     let sketches = sketch_set(random, size, manner);
@@ -23,6 +27,26 @@ pub fn given_set(random: &mut Random) -> Vec<Given> {
     for sketch in &sketches {
         set.push(if plain { plain_text(sketch) } else { ornate_text(random, sketch) });
     }
+    set
+}
+
+/// A few services, and one fault that has a place.
+fn set_with_a_fault(random: &mut Random) -> Vec<Given> {
+    let size = random.between(1, 3);
+    let mut set = good_set(random, size as usize);
+    let number = *random.pick(&PLACED);
+    let place = random.below(size) as usize;
+    damage(random, &mut set, place, number);
+    set
+}
+
+/// A set as it is handed over, damaged or not.
+pub fn given_set(random: &mut Random) -> Vec<Given> {
+    if random.one_in(3) {
+        return set_with_a_fault(random);
+    }
+    let size = if random.one_in(60) { 0 } else { set_size(random) };
+    let mut set = good_set(random, size);
     let damages = match random.below(10) {
         0..=2 => 0,
         3..=6 => 1,

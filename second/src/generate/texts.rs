@@ -42,7 +42,8 @@ fn escaped(token: &[u8]) -> Vec<u8> {
 }
 
 /// The same settings in any order, with quotes, escapes, comments, white
-/// space, repeated dependencies and settings that a later line replaces.
+/// space, carriage returns at every line's end, repeated dependencies and
+/// settings that a later line replaces.
 pub fn ornate_text(random: &mut Random, sketch: &Sketch) -> Given {
     let mut settings = sketch.settings.clone();
     random.shuffle(&mut settings);
@@ -62,6 +63,9 @@ pub fn ornate_text(random: &mut Random, sketch: &Sketch) -> Given {
             lines.insert(place, line);
         }
         lines.push(ornate_line(random, setting));
+    }
+    if random.one_in(4) {
+        lines.iter_mut().for_each(|line| line.push(b'\r'));
     }
     let mut text = lines.join(&b'\n');
     if !random.one_in(4) {
