@@ -51,7 +51,7 @@ PROMISED = [
     ('always-formed', 'crates/rules/proofs/Formed.antt', 'pub always-formed : AlwaysFormed'),
     ('RefusalsPoint', 'crates/guarantee/specs/Refusals.antt',
      '→ load lent ends tokens .loaded .answer ≡ Refused k s l c → Told (textAt lent ends s) k l c'),
-    ('refusals-point', 'crates/guarantee/proofs/Refusals.antt', 'pub refusals-point : RefusalsPoint'),
+    ('refusals-point', 'crates/guarantee/proofs/Pointing.antt', 'pub refusals-point : RefusalsPoint'),
     ('LineAndColumnTell', 'crates/load_text/specs/Offsets.antt',
      'LineAndColumnTell = (text : List ℕ) (at : ℕ) → Stands text at (lineNumber text at) (columnNumber text at)'),
     ('line-and-column-tell', 'crates/load_text/proofs/Offsets.antt', 'pub line-and-column-tell : LineAndColumnTell'),

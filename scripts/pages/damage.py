@@ -67,7 +67,7 @@ DAMAGES = [
     ('the law of lines and columns says less', 'LineAndColumnTell',
      {'crates/load_text/specs/Offsets.antt': swap('(lineNumber text at) (columnNumber text at)', '(lineNumber text at) 1')}),
     ('what a refused load points at says less', 'pub absent', {f'{GUARANTEE}/specs/Refusals.antt': without_line('pub absent : number')}),
-    ('its proof is commented out', 'refusals-point', {f'{GUARANTEE}/proofs/Refusals.antt': comment_out('pub refusals-point : RefusalsPoint')}),
+    ('its proof is commented out', 'refusals-point', {f'{GUARANTEE}/proofs/Pointing.antt': comment_out('pub refusals-point : RefusalsPoint')}),
     ('a part of it is gone', 'pub safe', {f'{RULES}/specs/Demand.antt': without_line('pub safe : Each (Clear t) recorded nobody')}),
     ('another part is', 'pub live', {f'{RULES}/specs/Demand.antt': without_line('pub live : (s : ℕ)')}),
     ('the list of what it rests on leaves one out', 'linksOf', {f'{RULES}/specs/Demand.antt': swap('linksOf, defaultsWith', 'defaultsWith')}),
