@@ -13,7 +13,7 @@ from tree import NAME, ROOT, Tree
 AUDIT, DESIGN, HOST, DECISIONS, README = 'docs/AUDIT.md', 'docs/DESIGN.md', 'docs/HOST.md', 'docs/DECISIONS.md', 'README.md'
 ELSEWHERE = ['second/README.md', 'examples/README.md']
 
-# What the three demands rest on: a statement's name, its file, and how it is declared there. Nothing else in the tree need cite these, so only
+# What the three demands and the requests rest on: a statement's name, its file, and how it is declared there. Nothing else in the tree need cite these, so only
 # this list sees it where one is renamed, weakened or taken off the page.
 PROMISED = [
     ('refusal-leaves-all', 'crates/rules/proofs/Refusals.antt',
@@ -49,12 +49,23 @@ PROMISED = [
     ('rests-everywhere', 'crates/rules/proofs/Resting.antt', 'pub rests-everywhere : RestsEverywhere'),
     ('all-down', 'crates/rules/proofs/Rounds.antt', 'pub all-down : {n n′ : Now} {cs : List Call} → Rounds t (suc (t .count)) n cs n′'),
     ('always-formed', 'crates/rules/proofs/Formed.antt', 'pub always-formed : AlwaysFormed'),
+    ('RefusalsPoint', 'crates/guarantee/specs/Refusals.antt',
+     '→ load lent ends tokens .loaded .answer ≡ Refused k s l c → Told (textAt lent ends s) k l c'),
+    ('refusals-point', 'crates/guarantee/proofs/Pointing.antt', 'pub refusals-point : RefusalsPoint'),
+    ('LineAndColumnTell', 'crates/load_text/specs/Offsets.antt',
+     'LineAndColumnTell = (text : List ℕ) (at : ℕ) → Stands text at (lineNumber text at) (columnNumber text at)'),
+    ('line-and-column-tell', 'crates/load_text/proofs/Offsets.antt', 'pub line-and-column-tell : LineAndColumnTell'),
+    ('refused_in', 'crates/load_lent/src/lib.rt', 'r ≡ refusedIn (now (text .entry)) j f'),
+    ('column_number', 'crates/load_text/src/lib.rt', 'r ≡ columnNumber (now (s .entry)) at'),
     ('pair-loads', 'crates/loader/specs/Examples.antt', 'pub pair-loads : loadOf pair 30 ≡ pairLoaded'),
     ('readings-hold', 'crates/rules/specs/Readings.antt', 'pub readings-hold : AllGiven readings'),
 ]
 
-# Where the statement stands that the auditor's page prints.
-STATED = ['crates/guarantee/specs/Guarantee.antt', 'crates/rules/specs/Demand.antt']
+# Where the statements stand that the auditor's page prints.
+STATED = ['crates/guarantee/specs/Guarantee.antt', 'crates/guarantee/specs/Refusals.antt', 'crates/rules/specs/Demand.antt']
+
+# What else the statements of the page begin from: every file of definitions that these rest on is on the page.
+BEGUN = ['crates/guarantee/specs/Guarantee.antt', 'crates/guarantee/specs/Refusals.antt', 'crates/guarantee/specs/Worked.antt']
 
 # The file of demand 3, its statements, and the heading of its list of what they rest on.
 STATEMENT = 'crates/rules/specs/Demand.antt'
@@ -68,12 +79,13 @@ TRUSTED = '### All that the statements rest on, by file'
 # The file of the load.
 LOADING = 'crates/loader/specs/Load.antt'
 
-# The words of the demands whose definitions must stand on the auditor's page.
+# The words of the demands and the requests whose definitions must stand on the auditor's page.
 WORDS = ['Call', 'afterCalls', 'freshState', 'accepted', 'Moment', 'Mark', 'story', 'ActsOn', 'recorded', 'fed', 'Path', 'hardLinks', 'Clear', 'Each',
          'Rests',
          'eventless', 'actionsIn', 'deadlineKill', 'sent', 'ToQuiet', 'Round', 'Rounds', 'WoundDown', 'NoZeroTimeout', 'fits', 'leaves', 'hands',
          'chosen', 'nextAction', 'formed', 'gives', 'check', 'refusedWith', 'positioned', 'namesFrom', 'sizesFrom', 'descriptionsFrom', 'textRead',
-         'servicesFrom', 'lowestCyclic', 'stored', 'settingsOf', 'refusalNumber']
+         'servicesFrom', 'lowestCyclic', 'stored', 'settingsOf', 'refusalNumber', 'hasByte', 'columnOfFault', 'refusedIn', 'columnNumber', 'Stands',
+         'Decides', 'Points', 'Told']
 
 # The wrong programs that paper 01 names. Any other edit may go together with its row; these may not.
 SHUT_OUT = ['loader/refuses_all', 'loader/one_fixed_table', 'engine/always_quiet', 'engine_calls/ignores_start', 'engine_calls/ignores_stop_all',
@@ -81,6 +93,14 @@ SHUT_OUT = ['loader/refuses_all', 'loader/one_fixed_table', 'engine/always_quiet
             'rules/launches_before_averager_ended', 'rules/ends_while_blocked', 'rules/deadline_before_launch', 'rules/settles_user_wanted',
             'rules/releases_before_waking', 'rules/begins_on_closing', 'engine_calls/ignores_stop', 'engine_calls/ignores_end', 'engine_records/restarts_after_stop',
             'engine_record_tests/closing_is_serving', 'engine_records/start_timeout_from_before_launch']
+
+# The wrong programs that stand for a request of paper 02, likewise.
+REQUESTED = {'W-201': ['load_text/columns_from_zero', 'load_text/column_counted_through_newlines', 'load_lent/column_of_15_of_the_value',
+                       'load_lent/line_without_column', 'load_reader/offsets_from_the_line']}
+
+# The page of the stored cases, and how a refused load is written.
+CASES = 'examples/README.md'
+REFUSED = r'refused \d+ service \d+ line \d+ column \d+'
 
 # What README.md names of each demand, so that a reader needs no other page to find it.
 ON_README = ['refusal-leaves-all', 'refused-load-leaves-all', 'load', 'outcome', 'Guarantee', 'guarantee']
@@ -146,6 +166,7 @@ class Check:
         self.contracts()
         self.host()
         self.structure()
+        self.cases()
         return [f'{place}: {what}' for place, what in self.faults]
 
     def functions(self):
@@ -216,7 +237,7 @@ class Check:
 
     def definitions(self):
         """Every file of definitions that the statements rest on is on the auditor's page."""
-        for start in ('crates/guarantee/specs/Guarantee.antt', 'crates/guarantee/specs/Worked.antt'):
+        for start in BEGUN:
             if not self.tree.exists(start):
                 continue
             for file in self.tree.rests_on(start):
@@ -275,6 +296,13 @@ class Check:
             path = name.replace('/', '/must-fail/')
             if f'crates/{path}.edit' not in there:
                 self.fault(f'crates/{path}.edit', 'paper 01 names this wrong program, and no edit stands for it')
+        for request, names in REQUESTED.items():
+            for name in names:
+                crate, edit = name.split('/')
+                if f'crates/{crate}/must-fail/{edit}.edit' not in there:
+                    self.fault(f'crates/{crate}/must-fail/{edit}.edit', f'it stands for a wrong program of {request}, and is gone')
+                if not any(row.startswith(f'| {request} |') and f'`{edit}`' in row for row in rows(self.whole[AUDIT])):
+                    self.fault(AUDIT, f'no row of {request} has {edit}')
 
     def contracts(self):
         """Demand 1: every public function of a library refuses bad input itself. So it has a contract, and asks nothing of its caller."""
@@ -333,6 +361,29 @@ class Check:
             own = ', '.join(i for i in imports if i in self.tree.crates) or '-'
             if told.get(crate) != own:
                 self.fault(DESIGN, f'{crate} imports {own}, and not {told.get(crate)}')
+
+    def cases(self):
+        """Each answer on the page of the stored cases is stored; every refusal by check_services is on it, and every number of a load is among them."""
+        told = set()
+        for row in rows(self.whole[CASES]):
+            named = quoted(row)
+            answers = [q for q in named if re.fullmatch(REFUSED, q)]
+            if not answers:
+                continue
+            output = f'examples/{named[0]}/output'
+            stored = self.tree.text(output).split('\n') if self.tree.exists(output) else []
+            for answer in answers:
+                told.add((output, answer))
+                if answer not in stored:
+                    self.fault(CASES, f'{output} has no line: {answer}')
+        numbers = {int(answer.split()[1]) for _, answer in told}
+        for number in [*range(1, 17), 25]:
+            if number not in numbers:
+                self.fault(CASES, f'no stored case is refused with {number}')
+        for output in self.tree.glob('examples/check_services/*/output'):
+            for answer in self.tree.text(output).split('\n'):
+                if answer.startswith('refused ') and (output, answer) not in told:
+                    self.fault(CASES, f'no row has the answer of {output}: {answer}')
 
 
 def faults(root):
