@@ -96,7 +96,7 @@ SHUT_OUT = ['loader/refuses_all', 'loader/one_fixed_table', 'engine/always_quiet
 
 # The wrong programs that stand for a request of paper 02, likewise.
 REQUESTED = {'W-201': ['load_text/columns_from_zero', 'load_text/column_counted_through_newlines', 'load_lent/column_of_15_of_the_value',
-                       'load_lent/line_without_column', 'load_reader/offsets_from_the_line']}
+                       'load_lent/line_without_column', 'load_reader/offsets_from_the_line', 'scenario_replies/line_told_for_the_column']}
 
 # The page of the stored cases, and how a refused load is written.
 CASES = 'examples/README.md'
