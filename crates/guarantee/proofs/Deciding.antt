@@ -42,7 +42,7 @@ use Rattle.load_description.specs.declared.Description.{Description}
 use Rattle.load_description.specs.declared.Line.{Line}
 use Rattle.load_description.specs.declared.Line.the-variants.{Bad as BadLine, Good as GoodLine}
 use Rattle.load_lent.specs.Refusals.{hasByte}
-use Rattle.guarantee.specs.Refusals.{Decides, backslash, bad-byte, firstAt, hash, isStart, name, no-name, no-sign, quote, seventeenth, signAt, value}
+use Rattle.guarantee.specs.Refusals.{Decides, InValue, backslash, bad-byte, firstAt, hash, isStart, name, no-name, no-sign, quote, seventeenth, signAt, value}
 
 -- ---- 6: the first bad byte
 
@@ -203,25 +203,38 @@ module _ (s : List ℕ) (from : ℕ) where
     line-in : from + length l ≤ length s
     line-in = end-fits s from u refl
 
-    -- a byte of the value that begins at the place i of the line, by its number, which is neither 0 nor a newline
-    module _ (i : ℕ) where
-      value-byte : (at n : ℕ) → eqb 10 (suc n) ≡ false → eqb 0 (suc n) ≡ false → getD (drop i l) at 0 ≡ suc n
-          → (from + i + at < length s) × (getD s (from + i + at) 0 ≡ suc n)
-      value-byte at n a b h =
-          let g : getD l (i + at) 0 ≡ suc n = sym (getD-drop i l at 0) ∙ h in
-          let k : i + at < length l = byte-inside l (i + at) n b g in
-          let z : from + (i + at) ≡ from + i + at = omega arith in
-          let t = sym (class-at (λ x. eqb x (suc n)) a b s from (i + at) (omega arith)) ∙ eq-eqb (getD l (i + at) 0) (suc n) g in
-          (omega (arith, line-in), subst (λ (j : ℕ). getD s j 0 ≡ suc n) z (eqb-true (getD s (from + (i + at)) 0) (suc n) t))
+    -- a fault in the value, whose bytes are neither 0 nor newlines; p is its place there
+    module _ (g : isSign (getD l sign 0) ≡ true) where
+      value-byte : (p n : ℕ) → eqb 10 (suc n) ≡ false → eqb 0 (suc n) ≡ false → getD (drop (sign + 1) l) p 0 ≡ suc n
+          → InValue s (from + (sign + 1) + p) × (from + (sign + 1) + p < length s) × (getD s (from + (sign + 1) + p) 0 ≡ suc n)
+      value-byte p n a b h =
+          let e : getD l (sign + 1 + p) 0 ≡ suc n = sym (getD-drop (sign + 1) l p 0) ∙ h in
+          let k : sign + 1 + p < length l = byte-inside l (sign + 1 + p) n b e in
+          let z : from + (sign + 1 + p) ≡ from + (sign + 1) + p = omega arith in
+          let t = sym (class-at (λ x. eqb x (suc n)) a b s from (sign + 1 + p) (omega arith)) ∙ eq-eqb (getD l (sign + 1 + p) 0) (suc n) e in
+          (record {
+            from = from;
+            start = start;
+            signed = rw sign-at (signed-at g);
+            after = omega (arith, sign-at);
+            line = λ i u v. on i u (omega arith);
+          },
+          omega (arith, line-in),
+          subst (λ (j : ℕ). getD s j 0 ≡ suc n) z (eqb-true (getD s (from + (sign + 1 + p)) 0) (suc n) t))
+        where
+          on : (i : ℕ) → from ≤ i → i < from + length l → isEnd s i ≡ false
+          on i u v =
+              let z : from + (i - from) ≡ i = omega arith in
+              subst (λ (j : ℕ). isEnd s j ≡ false) z (line-goes-on-at s from (i - from) (omega arith))
 
-      value-decided : (at n : ℕ) → Deciding (drop i l) at n → (from + i + at ≤ length s) × Decides s (from + i + at) n
-      value-decided at n (misplaced h) = let p = value-byte at 34 refl refl h in (omega (arith, p .0), hash (p .1))
-      value-decided at n (unclosed h) = let p = value-byte at 33 refl refl h in (omega (arith, p .0), quote (p .1))
-      value-decided at n (slash h e) =
-          let p = value-byte at 91 refl refl h in
-          let k : at < length (drop i l) = byte-inside (drop i l) at 91 refl h in
-          let z : from + length l ≡ from + i + at + 1 = omega (arith, length-drop i l) in
-          (omega (arith, p .0), backslash (p .1) (subst (λ (j : ℕ). isEnd s j ≡ true) z (line-ends-at s from)))
+      value-decided : (p n : ℕ) → Deciding (drop (sign + 1) l) p n → (from + (sign + 1) + p ≤ length s) × Decides s (from + (sign + 1) + p) n
+      value-decided p n (misplaced h) = let b = value-byte p 34 refl refl h in (omega (arith, b .1), hash (b .0) (b .2))
+      value-decided p n (unclosed h) = let b = value-byte p 33 refl refl h in (omega (arith, b .1), quote (b .0) (b .2))
+      value-decided p n (slash h e) =
+          let b = value-byte p 91 refl refl h in
+          let k : p < length (drop (sign + 1) l) = byte-inside (drop (sign + 1) l) p 91 refl h in
+          let z : from + length l ≡ from + (sign + 1) + p + 1 = omega (arith, length-drop (sign + 1) l) in
+          (omega (arith, b .1), backslash (b .0) (b .2) (subst (λ (j : ℕ). isEnd s j ≡ true) z (line-ends-at s from)))
 
     -- the rule of its property, after the sign
     seen-decided : (r : Line) → isSign (getD l sign 0) ≡ true → Seen (from + whiteEnd l (sign + 1)) r → Decided s r
@@ -263,7 +276,7 @@ module _ (s : List ℕ) (from : ℕ) where
               let at = from + (sign + 1) in
               let seen = from + whiteEnd l (sign + 1) in
               seen-decided (tokensRead s d p at seen z v) g (tokens-seen s d at seen p z v)
-          by false (BadValue f) h = value-decided (sign + 1) (f .at) (f .number) h
+          by false (BadValue f) h = value-decided g (f .at) (f .number) h
 
       -- a line that says something and has no name
       nameless-decided : saysNothing l begin ≡ false → eqb begin end ≡ true → Decides s (from + begin) 7

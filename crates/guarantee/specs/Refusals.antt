@@ -24,19 +24,27 @@ firstAt text from = whiteEnd text from
 abbrev pub signAt : List ℕ → ℕ → ℕ
 signAt text from = whiteEnd text (nameEnd text (firstAt text from))
 
+-- an offset is in the value of a line: after the line's sign, with no end of a line before it
+pub record InValue (text : List ℕ) (at : ℕ) : Type 0 where
+  pub from : ℕ
+  pub start : isStart text from ≡ true
+  pub signed : isSign (getD text (signAt text from) 0) ≡ true
+  pub after : signAt text from < at
+  pub line : (i : ℕ) → from ≤ i → i < at → isEnd text i ≡ false
+
 -- "the byte that decided it", by number. A byte may be missing at a sign and at a value: a newline stands there, or it is the text's end.
 pub data Decides (text : List ℕ) (at : ℕ) : ℕ → Type 0 where
   -- 6: the first bad byte of the text
   bad-byte : at < length text → isBad (getD text at 0) ≡ true → ((i : ℕ) → i < at → isBad (getD text i 0) ≡ false) → Decides text at 6
-  -- 7: a line's first byte, where it says something and no name begins; what stands in the place of the sign; a `#`
+  -- 7: a line's first byte, where it says something and no name begins; what stands in the place of the sign; a `#` in a value
   no-name : (from : ℕ) → isStart text from ≡ true → at ≡ firstAt text from → isEnd text at ≡ false → eqb (getD text at 0) 35 ≡ false
       → isPropertyByte (getD text at 0) ≡ false → Decides text at 7
   no-sign : (from : ℕ) → isStart text from ≡ true → at ≡ signAt text from → isSign (getD text at 0) ≡ false → Decides text at 7
-  hash : getD text at 0 ≡ 35 → Decides text at 7
+  hash : InValue text at → getD text at 0 ≡ 35 → Decides text at 7
   -- "for 8 that is the quote"
-  quote : getD text at 0 ≡ 34 → Decides text at 8
+  quote : InValue text at → getD text at 0 ≡ 34 → Decides text at 8
   -- "for 9 the backslash", with which its line ends
-  backslash : getD text at 0 ≡ 92 → isEnd text (at + 1) ≡ true → Decides text at 9
+  backslash : InValue text at → getD text at 0 ≡ 92 → isEnd text (at + 1) ≡ true → Decides text at 9
   -- "for 10 the name's first"
   name : (from : ℕ) → isStart text from ≡ true → at ≡ firstAt text from → isPropertyByte (getD text at 0) ≡ true → Decides text at 10
   -- "for 11 and 12 the first after the sign that isn't white space"
