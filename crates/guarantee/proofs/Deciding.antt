@@ -19,9 +19,10 @@ use Rattle.load_text.specs.declared.Fault.{Fault}
 use Rattle.load_text.specs.declared.Opening.the-variants.{Bad as BadOpening, Named, Nothing as Silent}
 use Rattle.load_text.specs.declared.Verdict.{Verdict}
 use Rattle.load_text.specs.declared.Verdict.the-variants.{Bad, Good}
-use Rattle.load_text.proofs.Lines.{class-at, class-inside, end-fits, lines-split, run-at}
+use Rattle.load_text.proofs.Lines.{class-at, class-inside, drop-line, end-fits, lines-split, run-at}
 use Rattle.load_text.proofs.Offsets.{line-ends-at, line-goes-on-at}
 use Rattle.load_text.proofs.Runs.{run-within}
+use Rattle.load_value.specs.Quotes.{closes}
 use Rattle.load_value.specs.Values.{isCommand, isWord, scanOf, wordOf}
 use Rattle.load_value.specs.declared.Scan.{Scan}
 use Rattle.load_value.specs.declared.Scan.the-variants.{Bad as BadValue, Tokens}
@@ -187,6 +188,9 @@ module _ (s : List ℕ) (from : ℕ) where
       let n : nameEnd s (from + begin) ≡ from + end = omega (arith, run-at isPropertyByte refl s from begin begin-in) in
       rw (first-at, n, white-at end end-in)
 
+  rest-at : (i : ℕ) → i ≤ length l → drop i l ≡ lineOf (drop (from + i) s)
+  rest-at i h = drop-line i (drop from s) h ∙ ap lineOf (drop-drop i from s)
+
   -- whether a name begins there
   name-at : {t : Bool} → isPropertyByte (getD (drop begin l) 0 0) ≡ t → isPropertyByte (getD s (from + begin) 0) ≡ t
   name-at h =
@@ -211,16 +215,17 @@ module _ (s : List ℕ) (from : ℕ) where
           let e : getD l (sign + 1 + p) 0 ≡ suc n = sym (getD-drop (sign + 1) l p 0) ∙ h in
           let k : sign + 1 + p < length l = byte-inside l (sign + 1 + p) n b e in
           let z : from + (sign + 1 + p) ≡ from + (sign + 1) + p = omega arith in
-          let t = sym (class-at (λ x. eqb x (suc n)) a b s from (sign + 1 + p) (omega arith)) ∙ eq-eqb (getD l (sign + 1 + p) 0) (suc n) e in
-          (record {
-            from = from;
-            start = start;
-            signed = rw sign-at (signed-at g);
-            after = omega (arith, sign-at);
-            line = λ i u v. on i u (omega arith);
-          },
-          omega (arith, line-in),
-          subst (λ (j : ℕ). getD s j 0 ≡ suc n) z (eqb-true (getD s (from + (sign + 1 + p)) 0) (suc n) t))
+          let t = sym (class-at (λ x. eqb x (suc n)) a b s from (sign + 1 + p) (omega arith)) ∙ eq-eqb (getD l (sign + 1 + p) 0) (suc n) e in (
+            record {
+              from = from;
+              start = start;
+              signed = rw sign-at (signed-at g);
+              after = omega (arith, sign-at);
+              line = λ i u v. on i u (omega arith);
+            },
+            omega (arith, line-in),
+            subst (λ (j : ℕ). getD s j 0 ≡ suc n) z (eqb-true (getD s (from + (sign + 1 + p)) 0) (suc n) t),
+          )
         where
           on : (i : ℕ) → from ≤ i → i < from + length l → isEnd s i ≡ false
           on i u v =
@@ -229,7 +234,13 @@ module _ (s : List ℕ) (from : ℕ) where
 
       value-decided : (p n : ℕ) → Deciding (drop (sign + 1) l) p n → (from + (sign + 1) + p ≤ length s) × Decides s (from + (sign + 1) + p) n
       value-decided p n (misplaced h) = let b = value-byte p 34 refl refl h in (omega (arith, b .1), hash (b .0) (b .2))
-      value-decided p n (unclosed h) = let b = value-byte p 33 refl refl h in (omega (arith, b .1), quote (b .0) (b .2))
+      value-decided p n (unclosed h e) =
+          let b = value-byte p 33 refl refl h in
+          let k : p < length (drop (sign + 1) l) = byte-inside (drop (sign + 1) l) p 33 refl h in
+          let i : sign + 1 + (p + 1) ≤ length l = omega (arith, length-drop (sign + 1) l) in
+          let z : from + (sign + 1 + (p + 1)) ≡ from + (sign + 1) + p + 1 = omega arith in
+          let left = drop-drop (p + 1) (sign + 1) l ∙ rest-at (sign + 1 + (p + 1)) i ∙ ap (λ (j : ℕ). lineOf (drop j s)) z in
+          (omega (arith, b .1), quote (b .0) (b .2) (sym (ap closes left) ∙ e))
       value-decided p n (slash h e) =
           let b = value-byte p 91 refl refl h in
           let k : p < length (drop (sign + 1) l) = byte-inside (drop (sign + 1) l) p 91 refl h in

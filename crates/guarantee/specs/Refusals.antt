@@ -1,13 +1,14 @@
 -- Trusted: W-201: what a refused load points at: the byte that decided, by number, and its line and column.
 use Prim.Native.Nat.{ℕ, _+_, _-_, _<_, _≤_}
 use lib.Dec.{eqb}
-use lib.ListN.{getD, length}
+use lib.ListN.{drop, getD, length}
 use mathlib.Core.Bool.{Bool, _||_, false, true}
 use mathlib.Core.List.{List}
 use mathlib.Core.Path.{_≡_}
 use Rattle.load_text.specs.Bytes.{isBad, isNewline, isPropertyByte, isSign}
-use Rattle.load_text.specs.Lines.{nameEnd, whiteEnd}
+use Rattle.load_text.specs.Lines.{lineOf, nameEnd, whiteEnd}
 use Rattle.load_text.specs.Offsets.{Stands, isEnd}
+use Rattle.load_value.specs.Quotes.{closes}
 use Rattle.load_lent.specs.Parts.{textAt}
 use Rattle.load_lent.specs.Refusals.{hasByte}
 use Rattle.load_lent.specs.declared.Answer.the-variants.{Refused}
@@ -41,8 +42,8 @@ pub data Decides (text : List ℕ) (at : ℕ) : ℕ → Type 0 where
       → isPropertyByte (getD text at 0) ≡ false → Decides text at 7
   no-sign : (from : ℕ) → isStart text from ≡ true → at ≡ signAt text from → isSign (getD text at 0) ≡ false → Decides text at 7
   hash : InValue text at → getD text at 0 ≡ 35 → Decides text at 7
-  -- "for 8 that is the quote"
-  quote : InValue text at → getD text at 0 ≡ 34 → Decides text at 8
+  -- "for 8 that is the quote": none on its line closes it
+  quote : InValue text at → getD text at 0 ≡ 34 → closes (lineOf (drop (at + 1) text)) ≡ false → Decides text at 8
   -- "for 9 the backslash", with which its line ends
   backslash : InValue text at → getD text at 0 ≡ 92 → isEnd text (at + 1) ≡ true → Decides text at 9
   -- "for 10 the name's first"

@@ -2,6 +2,7 @@
 use Prim.Native.Nat.{ℕ}
 use Prim.Native.String.{String}
 use mathlib.Core.Path.{_≡_, refl}
+use mathlib.Core.Bool.{true, false}
 use mathlib.Core.List.{List, [], _∷_, map}
 use lib.Dec.{eqb}
 use Rattle.base.specs.Folds.{pick}
@@ -10,6 +11,7 @@ use Rattle.load_text.specs.Lines.{fault}
 use Rattle.load_value.specs.declared.Scan.{Scan}
 use Rattle.load_value.specs.declared.Scan.the-variants.{Tokens as Good, Bad}
 use Rattle.load_value.specs.Steps.{stepOf, bareStep}
+use Rattle.load_value.specs.Quotes.{closes, closesFrom}
 use Rattle.load_value.specs.Values.{faultFrom, marksFrom, sizesFrom, scanOf, written}
 
 -- a value: what the scan tells, and its tokens with a slash for each zero byte, so that they show
@@ -58,3 +60,8 @@ given e = record { scan = e .scan; tokens = bytes (e .tokens) }
 pub examples-hold : map outcome examples ≡ map given examples
 unfolding bytes stepOf bareStep faultFrom marksFrom sizesFrom scanOf written
 examples-hold = refl
+
+-- what closes a quoted stretch, after its opening quote: a quote that no backslash makes literal
+pub quotes-close : map (λ s. closes (bytes s)) ("" ∷ "a" ∷ "a\" b" ∷ "a\\\"" ∷ "a\\\\\"" ∷ "\\" ∷ []) ≡ false ∷ false ∷ true ∷ false ∷ true ∷ false ∷ []
+unfolding bytes closesFrom
+quotes-close = refl
