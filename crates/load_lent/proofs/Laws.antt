@@ -10,12 +10,14 @@ use native.Mathlib.Nat.{sub-zero}
 use native.Mathlib.Omega.{arith}
 use Rattle.base.proofs.Counting.{drop-more, one-left}
 use Rattle.base.proofs.Tests.{or-all}
+use Rattle.load_text.specs.Lines.{columnNumber, lineNumber}
+use Rattle.load_text.specs.declared.Fault.{Fault}
 use Rattle.load_word.specs.Words.{isName}
 use Rattle.load_lent.specs.Checks.{find, longestText, longestTexts, namesFrom, sizesFrom}
 use Rattle.load_lent.specs.Parts.{nameStart, risesTo, serviceCount, within}
-use Rattle.load_lent.specs.Refusals.{bare}
+use Rattle.load_lent.specs.Refusals.{bare, hasByte, refusedIn}
 use Rattle.load_lent.specs.declared.Answer.{Answer}
-use Rattle.load_lent.specs.declared.Answer.the-variants.{Accepted}
+use Rattle.load_lent.specs.declared.Answer.the-variants.{Accepted, Refused}
 
 -- ---- the positions
 
@@ -109,3 +111,12 @@ module _ {text : ℕ → List ℕ} {n t j : ℕ} (k : SizesLeft text n t j) wher
       few = m;
       rest = k .rest ∙ rw (one-left n j l, ← is, le-ltb longestText (length w) h, le-ltb longestTexts (t + length w) m);
     }
+
+-- ---- a fault in a text, with its line and column as the code has them
+
+module _ (text : List ℕ) (j : ℕ) (f : Fault) {l : ℕ} where
+  pub refused-decided : {c : ℕ} → hasByte (f .number) ≡ true → l ≡ lineNumber text (f .at) → c ≡ columnNumber text (f .at) → Refused (f .number) j l c ≡ refusedIn text j f
+  refused-decided h p q = rw (h, p, q)
+
+  pub refused-absent : hasByte (f .number) ≡ false → eqb (f .number) 15 ≡ true → l ≡ lineNumber text (f .at) → Refused (f .number) j l 1 ≡ refusedIn text j f
+  refused-absent h g p = rw (h, g, p)

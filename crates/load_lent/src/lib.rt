@@ -192,21 +192,23 @@ pub fn refused_in(text: &[u8], j: usize, f: Fault) -> Answer
     ensures { λ r. ⌜ r ≡ refusedIn (now (text .entry)) j f ⌝ }
 {
     let number = f.number;
+    let line = line_number(text, f.at);
+    let column = column_number(text, f.at);
     let decided = (6 <= number) & (number <= 12);
     let absent = number == 15;
     if decided {
         return Answer::Refused {
             number,
             service: j,
-            line: line_number(text, f.at),
-            column: column_number(text, f.at),
+            line,
+            column,
         };
     }
     if absent {
         return Answer::Refused {
             number,
             service: j,
-            line: line_number(text, f.at),
+            line,
             column: 1,
         };
     }
