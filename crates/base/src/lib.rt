@@ -1,4 +1,6 @@
 // Sets of numbers as bits of a number. The definitions stand in specs/, the laws in proofs/.
+#![tactic(auto)]
+
 ghost use Rattle.std.specs.Prelude.{◌≡◌, ◌&&◌, not, ltb};
 ghost use Rattle.base.specs.Folds.{first};
 ghost use Rattle.base.specs.Sets.{has_bit, within, single, kept, overlap};

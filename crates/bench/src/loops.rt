@@ -12,7 +12,7 @@ pub(crate) const PLACES: usize = 4 * MAX_SERVICES;
 const TAKEN_UP: usize = 2 * LARGE;
 
 // The events.
-#[derive(Drop)]
+#[derive(Clone, Copy)]
 pub(crate) enum Event {
     Start,
     Stop,

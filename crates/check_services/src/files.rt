@@ -8,7 +8,7 @@ use libc::{PATH_MAX, S_IFMT, S_IFREG};
 const LAST: usize = PATH_MAX - 1;
 
 // What a look gave: a status, 0 where there is something to see, and then its mode, which says what kind of file it is.
-#[derive(Drop)]
+#[derive(Clone, Copy)]
 struct Looked {
     status: i32,
     mode: u32,

@@ -24,14 +24,14 @@ const ENOUGH_TEXT: usize = MAX_TEXTS + 1;
 const ROOM: usize = KEPT_NAMES * KEPT_NAME + MAX_TEXTS + KEPT_TEXT;
 
 // What a read gave: where it ended, and whether it did not fail.
-#[derive(Drop)]
+#[derive(Clone, Copy)]
 struct Got {
     good: bool,
     end: usize,
 }
 
 // What the buffer holds so far: the services, the bytes in use, and how many more bytes of text until no further file is opened.
-#[derive(Drop)]
+#[derive(Clone, Copy)]
 struct Lent {
     services: usize,
     bytes: usize,
@@ -39,7 +39,7 @@ struct Lent {
 }
 
 // The buffer filled, or the service whose file is no regular one, or will not open or read.
-#[derive(Drop)]
+#[derive(Clone, Copy)]
 enum Filled {
     Whole(Lent),
     Unreadable(usize),

@@ -32,7 +32,7 @@ pub fn fresh() -> State
 }
 
 // How many actions were handed out, the last of them, and the state they left. Where all is quiet, the last is that.
-#[derive(Drop)]
+#[derive(Clone, Copy)]
 pub struct Progress {
     pub last: Action,
     pub count: usize,

@@ -12,7 +12,7 @@ pub use standing::{Standing, noted};
 use standing::{Which, which_fit};
 
 // For each rule the services that it fits.
-#[derive(Drop)]
+#[derive(Clone, Copy)]
 pub struct Fits {
     pub lose: u64,
     pub abandon: u64,

@@ -11,7 +11,7 @@ use engine_record_tests::{
 };
 use service::{Deadline, Form, Record, Settings, all_links, form_of, strong_links};
 
-#[derive(Drop)]
+#[derive(Clone, Copy)]
 pub struct Standing {
     // services that are not up with no cause
     pub lost: u64,
@@ -30,7 +30,7 @@ pub struct Standing {
 }
 
 // Which of the rules fit a service.
-#[derive(Drop)]
+#[derive(Clone, Copy)]
 pub struct Which {
     pub lose: bool,
     pub abandon: bool,

@@ -14,14 +14,14 @@ use service::{Kind, Settings, kind_at};
 pub const MAX_DEPENDENCIES: usize = 16;
 
 // A dependency as the text has it: by which property, and the offset where its value begins.
-#[derive(Drop)]
+#[derive(Clone, Copy)]
 pub struct Dependency {
     pub link: Link,
     pub at: usize,
 }
 
 // The offsets where the values that are kept begin; 0 where there is none.
-#[derive(Drop)]
+#[derive(Clone, Copy)]
 pub struct Kept {
     pub command: usize,
     pub stop: usize,
@@ -29,7 +29,7 @@ pub struct Kept {
 
 // What the lines so far say: the settings, but for the services depended on; whether there was a type; what is kept; the dependencies, of
 // which there are `count`.
-#[derive(Drop)]
+#[derive(Clone, Copy)]
 pub struct Description {
     pub settings: Settings,
     pub typed: bool,
@@ -39,7 +39,7 @@ pub struct Description {
 }
 
 // What a line does: nothing; a type; other settings; a command, or a dependency more, whose value begins at an offset.
-#[derive(Drop)]
+#[derive(Clone, Copy)]
 pub enum Effect {
     Nothing,
     Kind(Kind),
@@ -49,14 +49,14 @@ pub enum Effect {
 }
 
 // What the line reader answers.
-#[derive(Drop)]
+#[derive(Clone, Copy)]
 pub enum Line {
     Good(Effect),
     Bad(Fault),
 }
 
 // The settings so far, and whether all is good.
-#[derive(Drop)]
+#[derive(Clone, Copy)]
 pub struct Read {
     pub answer: Verdict,
     pub description: Description,

@@ -8,7 +8,7 @@ use load_text::{Fault, column_number, line_number, part, same_bytes};
 use load_word::is_name;
 
 // What the checks of a set, and the load, answer: accepted, or paper 01's number with the service, the line and the column.
-#[derive(Drop)]
+#[derive(Clone, Copy)]
 pub enum Answer {
     Accepted,
     Refused {

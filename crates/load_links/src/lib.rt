@@ -22,21 +22,21 @@ use load_word::Link;
 use service::{MAX_SERVICES, Settings, all_links};
 
 // The services that a service depends on, as sets: by depends-on, by depends-ms and by waits-for.
-#[derive(Drop)]
+#[derive(Clone, Copy)]
 pub struct Links {
     pub hard: u64,
     pub milestone: u64,
     pub soft: u64,
 }
 
-#[derive(Drop)]
+#[derive(Clone, Copy)]
 pub struct Linked {
     pub answer: Verdict,
     pub links: Links,
 }
 
 // The settings made so far, by service.
-#[derive(Drop)]
+#[derive(Clone, Copy)]
 pub struct Services {
     pub answer: Answer,
     pub services: [Settings; MAX_SERVICES],

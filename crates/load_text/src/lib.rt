@@ -1,4 +1,6 @@
 // The bytes and lines of a description: classes of bytes, the lines, and where a line's name, sign and value are.
+#![tactic(auto)]
+
 ghost use Rattle.std.specs.Prelude.{◌≡◌, ◌+◌, length, get_or, take, drop};
 ghost use Rattle.load_text.specs.Strings.{same, part_of};
 ghost use Rattle.load_text.specs.Bytes.{is_white, is_bad, is_property_byte, is_name_byte, is_digit, is_sign};
@@ -8,21 +10,21 @@ ghost use Rattle.load_text.specs.Lines.{line_of, bad_from, line_from, line_numbe
 pub const LONGEST_NAME: usize = 32;
 
 // A fault met inside a text: paper 01's number, and the offset of the byte that decided it.
-#[derive(Drop)]
+#[derive(Clone, Copy)]
 pub struct Fault {
     pub number: u8,
     pub at: usize,
 }
 
 // The outcome of a check: good, or its first fault.
-#[derive(Drop)]
+#[derive(Clone, Copy)]
 pub enum Verdict {
     Good,
     Bad(Fault),
 }
 
 // Where a line's property name begins and ends, and where its value begins.
-#[derive(Drop)]
+#[derive(Clone, Copy)]
 pub struct Places {
     pub from: usize,
     pub end: usize,
@@ -30,7 +32,7 @@ pub struct Places {
 }
 
 // How a line begins: it says nothing, has a name and a sign, or is malformed.
-#[derive(Drop)]
+#[derive(Clone, Copy)]
 pub enum Opening {
     Nothing,
     Named(Places),

@@ -14,7 +14,7 @@ pub const LONGEST_WORD: usize = LONGEST_NAME;
 pub const WORD_ROOM: usize = LONGEST_WORD + 1;
 
 // Where the reader of a value is: after a backslash, in quotes, in a token, in a comment.
-#[derive(Drop)]
+#[derive(Clone, Copy)]
 pub struct Mode {
     pub escaped: bool,
     pub quoted: bool,
@@ -33,7 +33,7 @@ impl Mode {
 }
 
 // What a byte does, with the next mode: nothing more, open a quoted stretch, be kept, or end a token; or it is malformed.
-#[derive(Drop)]
+#[derive(Clone, Copy)]
 pub enum Step {
     Skip(Mode),
     Quote(Mode),
@@ -43,7 +43,7 @@ pub enum Step {
 }
 
 // The tokens of a value: how many they are, the room that they take with a zero byte after each, the length of the first.
-#[derive(Drop)]
+#[derive(Clone, Copy)]
 pub struct Sizes {
     pub tokens: usize,
     pub room: usize,
@@ -51,7 +51,7 @@ pub struct Sizes {
 }
 
 // What a value is: its tokens, or its first fault.
-#[derive(Drop)]
+#[derive(Clone, Copy)]
 pub enum Scan {
     Tokens(Sizes),
     Bad(Fault),

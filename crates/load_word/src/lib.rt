@@ -14,7 +14,7 @@ use service::{Kind, LAST_SIGNAL, LONGEST_TIME, MAX_COUNT, Settings, kind_number,
 const SIGNALS: usize = LAST_SIGNAL as usize + 1;
 
 // A property by what its value is: the type; a word that the settings hold; a command; the name of a service that is depended on.
-#[derive(Drop)]
+#[derive(Clone, Copy)]
 pub enum Property {
     Kind,
     Setting(Setting),
@@ -24,7 +24,7 @@ pub enum Property {
 }
 
 // The properties whose value is a word that the settings hold, each by paper 01's name.
-#[derive(Drop)]
+#[derive(Clone, Copy)]
 pub enum Setting {
     Restart,
     SmoothRecovery,
@@ -37,14 +37,14 @@ pub enum Setting {
 }
 
 // Those whose value is kept: command and stop-command.
-#[derive(Drop)]
+#[derive(Clone, Copy)]
 pub enum Command {
     Start,
     Stop,
 }
 
 // Those whose value names a service.
-#[derive(Drop)]
+#[derive(Clone, Copy)]
 pub enum Link {
     DependsOn,
     DependsMs,
@@ -52,21 +52,21 @@ pub enum Link {
 }
 
 // What a word is worth to a rule: a number, or it is outside the rule.
-#[derive(Drop)]
+#[derive(Clone, Copy)]
 pub enum Worth {
     Value(u64),
     Bad,
 }
 
 // What a setting's word does: the settings with its value, or it is outside the rule.
-#[derive(Drop)]
+#[derive(Clone, Copy)]
 pub enum Change {
     To(Settings),
     Refused,
 }
 
 // A decimal number as it is read: its digits before and after the point, their value without the point, a point.
-#[derive(Drop)]
+#[derive(Clone, Copy)]
 pub struct Decimal {
     pub whole: usize,
     pub part: usize,
@@ -75,7 +75,7 @@ pub struct Decimal {
 }
 
 // A decimal number so far, or none.
-#[derive(Drop)]
+#[derive(Clone, Copy)]
 pub enum Reading {
     On(Decimal),
     Off,

@@ -25,21 +25,21 @@ pub use tokens::{Commands, Tokens};
 use tokens::{place_service, write_service};
 
 // The descriptions read so far, by service.
-#[derive(Drop)]
+#[derive(Clone, Copy)]
 pub struct Descriptions {
     pub answer: Answer,
     pub descriptions: [Description; MAX_SERVICES],
 }
 
 // Where what is kept of each service is, and the room that all of it takes.
-#[derive(Drop)]
+#[derive(Clone, Copy)]
 pub struct Placed {
     pub commands: [Commands; MAX_SERVICES],
     pub room: usize,
 }
 
 // What a load gives: its answer, the table, and where the tokens of each service's command and stop-command are.
-#[derive(Drop)]
+#[derive(Clone, Copy)]
 pub struct Loaded {
     pub answer: Answer,
     pub table: Table,

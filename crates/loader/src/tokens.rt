@@ -9,14 +9,14 @@ use load_description::{Description, value_at};
 use load_value::{Scan, scan_value, write_value};
 
 // Where the tokens of a command begin in the lent buffer, and how many they are.
-#[derive(Drop)]
+#[derive(Clone, Copy)]
 pub struct Tokens {
     pub at: usize,
     pub count: usize,
 }
 
 // Where those of a service's command and stop-command are.
-#[derive(Drop)]
+#[derive(Clone, Copy)]
 pub struct Commands {
     pub start: Tokens,
     pub stop: Tokens,
@@ -31,7 +31,7 @@ impl Commands {
 }
 
 // How many tokens a command has, and the room that they take.
-#[derive(Drop)]
+#[derive(Clone, Copy)]
 pub struct Measured {
     pub count: usize,
     pub room: usize,
@@ -43,7 +43,7 @@ impl Measured {
 }
 
 // Where what is kept of a service is, and the place past it.
-#[derive(Drop)]
+#[derive(Clone, Copy)]
 pub struct Place {
     pub commands: Commands,
     pub end: usize,

@@ -1,7 +1,7 @@
 // What is asked and answered, in numbers. The types have a module of their own since `event` and `Event` may not stand in one.
 
 // What happens to the services: a service by its place, whether an end was good, and the time of the clock.
-#[derive(Drop)]
+#[derive(Clone, Copy)]
 pub enum Event {
     Start(usize),
     Stop(usize),
@@ -11,7 +11,7 @@ pub enum Event {
 }
 
 // The next action: a refusal's number, or 0; and else whether all is quiet, or the service and the number of the action.
-#[derive(Drop)]
+#[derive(Clone, Copy)]
 pub struct Next {
     pub refusal: u64,
     pub quiet: bool,
@@ -20,14 +20,14 @@ pub struct Next {
 }
 
 // A run: a refusal's number, or 0; and how many actions were handed out.
-#[derive(Drop)]
+#[derive(Clone, Copy)]
 pub struct Run {
     pub refusal: u64,
     pub count: u64,
 }
 
 // A query: a refusal's number, or 0; and the earliest time, where there is one.
-#[derive(Drop)]
+#[derive(Clone, Copy)]
 pub struct Asked {
     pub refusal: u64,
     pub timed: bool,
@@ -35,7 +35,7 @@ pub struct Asked {
 }
 
 // A load: 0 where it is accepted, with the count of services; else the refusal's number, service, line and column.
-#[derive(Drop)]
+#[derive(Clone, Copy)]
 pub struct Load {
     pub number: u64,
     pub service: u64,

@@ -1,7 +1,7 @@
 // The rules of the next action, by name. What each means is defined in specs/.
 
 // Rules 1 to 8 of paper 01, in its order.
-#[derive(Drop)]
+#[derive(Clone, Copy)]
 pub enum Rule {
     Lose,
     Abandon,
@@ -14,7 +14,7 @@ pub enum Rule {
 }
 
 // The first rule with any service that it fits, and the lowest such service.
-#[derive(Drop)]
+#[derive(Clone, Copy)]
 pub enum Choice {
     Quiet,
     Fit(Rule, usize),

@@ -11,7 +11,7 @@ use service::MAX_SERVICES;
 
 // What a line asks for: the place of its form, or one of the numbers after it; and the numbers of its second word and of
 // its last. A load with positions has its room and how many they are. What is not there is 0, and all of a bad line is.
-#[derive(Drop)]
+#[derive(Clone, Copy)]
 pub struct Command {
     pub verb: usize,
     pub first: u64,

@@ -136,7 +136,7 @@ pub fn places() -> [usize; 27]
 }
 
 // An answer: the place of its text, and up to four numbers.
-#[derive(Drop)]
+#[derive(Clone, Copy)]
 pub struct Reply {
     pub text: usize,
     pub first: u64,

@@ -32,7 +32,7 @@ pub type Positions = [usize; POSITIONS];
 pub type Buffer = [u8; ROOM];
 
 // How many services were begun, the kept bytes, and how many of these are the last service's text.
-#[derive(Drop)]
+#[derive(Clone, Copy)]
 pub struct Given {
     pub begun: usize,
     pub bytes: usize,

@@ -6,7 +6,7 @@ ghost use Rattle.scenario_words.specs.Numbers.{with_digit, number_of, number_to}
 use load_text::{part, same_bytes};
 
 // A number of 64 bits, where a word is one; else 0.
-#[derive(Drop)]
+#[derive(Clone, Copy)]
 pub struct Read {
     pub good: bool,
     pub value: u64,

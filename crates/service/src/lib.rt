@@ -1,4 +1,6 @@
 // What a service is: its settings and the table of all services, its record and the state, the actions and the answers; each enum's numbers.
+#![tactic(auto)]
+
 mod numbers;
 
 ghost use Rattle.std.specs.Prelude.{◌≡◌};
@@ -29,7 +31,7 @@ pub const LAST_CLOCK: u64 = 281474976710656;
 pub const LAST_TIME: u64 = LAST_CLOCK + LONGEST_TIME;
 
 // Paper 01's types.
-#[derive(Drop)]
+#[derive(Clone, Copy)]
 pub enum Kind {
     Process,
     Scripted,
@@ -38,7 +40,7 @@ pub enum Kind {
 
 // How a service is launched, and whether it has a live process while it is up. The order is the one in which list 24 and the choice of a
 // rule take the fewest instructions.
-#[derive(Drop)]
+#[derive(Clone, Copy)]
 pub enum Form {
     // launched into starting, not live while up
     Passing,
@@ -51,7 +53,7 @@ pub enum Form {
 }
 
 // What term-signal names, in paper 01's order; none sends nothing.
-#[derive(Drop)]
+#[derive(Clone, Copy)]
 pub enum Signal {
     None,
     Hup,
@@ -64,7 +66,7 @@ pub enum Signal {
 }
 
 // A service's settings, each with paper 01's property. Times are in units of 0.1 ms; a dependency set has bit d for service d.
-#[derive(Drop)]
+#[derive(Clone, Copy)]
 pub struct Settings {
     // type
     pub kind: Kind,
@@ -92,13 +94,13 @@ pub struct Settings {
     pub soft: u64,
 }
 
-#[derive(Drop)]
+#[derive(Clone, Copy)]
 pub struct Table {
     pub count: usize,
     pub services: [Settings; MAX_SERVICES],
 }
 
-#[derive(Drop)]
+#[derive(Clone, Copy)]
 pub enum Phase {
     Down,
     Waiting,
@@ -108,7 +110,7 @@ pub enum Phase {
 }
 
 // Why a service is to end.
-#[derive(Drop)]
+#[derive(Clone, Copy)]
 pub enum Cause {
     None,
     User,
@@ -118,7 +120,7 @@ pub enum Cause {
 }
 
 // None is no deadline, and not the time 0.
-#[derive(Drop)]
+#[derive(Clone, Copy)]
 pub enum Deadline {
     None,
     At(u64),
@@ -126,7 +128,7 @@ pub enum Deadline {
 
 // One service's place in the state. The fields stand by size, the deadline last: so a record takes 56 bytes, and the loops over records
 // load none that spans a store just made.
-#[derive(Drop)]
+#[derive(Clone, Copy)]
 pub struct Record {
     pub phase: Phase,
     pub cause: Cause,
@@ -141,14 +143,14 @@ pub struct Record {
     pub deadline: Deadline,
 }
 
-#[derive(Drop)]
+#[derive(Clone, Copy)]
 pub struct State {
     pub clock: u64,
     pub records: [Record; MAX_SERVICES],
 }
 
 // What the host is handed. Moved is a change of the state alone: the host has nothing to do.
-#[derive(Drop)]
+#[derive(Clone, Copy)]
 pub enum Action {
     Quiet,
     Moved(usize),
@@ -158,7 +160,7 @@ pub enum Action {
 }
 
 // Why a call of the engine is refused: 24, 20, 21, 22, 23 and 25 of paper 01.
-#[derive(Drop)]
+#[derive(Clone, Copy)]
 pub enum Refusal {
     IllFormed,
     NoService,
@@ -169,47 +171,47 @@ pub enum Refusal {
 }
 
 // The answer to an event.
-#[derive(Drop)]
+#[derive(Clone, Copy)]
 pub enum EventAnswer {
     Done,
     Refused(Refusal),
 }
 
 // The answer to a request for the next action.
-#[derive(Drop)]
+#[derive(Clone, Copy)]
 pub enum ActionAnswer {
     Act(Action),
     Refused(Refusal),
 }
 
 // The answer to a run to quiet: how many actions were handed out.
-#[derive(Drop)]
+#[derive(Clone, Copy)]
 pub enum RunAnswer {
     Ran(usize),
     Refused(Refusal),
 }
 
 // The answer to a query: the earliest time at which a service may have something to do, if any.
-#[derive(Drop)]
+#[derive(Clone, Copy)]
 pub enum QueryAnswer {
     Earliest(Deadline),
     Refused(Refusal),
 }
 
 // What each kind of call gives back: its answer next to the state, since an enum holds no array.
-#[derive(Drop)]
+#[derive(Clone, Copy)]
 pub struct Changed {
     pub answer: EventAnswer,
     pub state: State,
 }
 
-#[derive(Drop)]
+#[derive(Clone, Copy)]
 pub struct Stepped {
     pub answer: ActionAnswer,
     pub state: State,
 }
 
-#[derive(Drop)]
+#[derive(Clone, Copy)]
 pub struct Ran {
     pub answer: RunAnswer,
     pub state: State,

@@ -14,7 +14,7 @@ pub(crate) type TokenBuffer = [u8; 65536];
 
 // Where a scenario has come to: what was given, whether a set is loaded and how many services it has, and the place in
 // the output.
-#[derive(Drop)]
+#[derive(Clone, Copy)]
 pub(crate) struct Stand {
     pub(crate) given: Given,
     pub(crate) loaded: bool,

@@ -1,0 +1,14 @@
+use native.Mathlib.Omega.{arith}
+use mathlib.Core.Path.{◌≡◌, refl, ap}
+use Prim.Native.Nat.{◌+◌, ◌-◌}
+use lib.ListN.{length, drop}
+use Rattle.load_text.specs.Lines.{line_of}
+use Rattle.load_text.proofs.Lines.{line_none, line_more}
+use borrow.Author.Rules.{rules}
+use Rattle.load_text.proofs.line_end.Given as goal
+
+abbrev pub invariant-loop-e : goal.invariant-loop-e
+invariant-loop-e l = l.i + length (line_of (drop l.i l.s)) ≡ l.e + length (line_of (drop l.e l.s))
+
+abbrev pub decreases-loop-e : goal.decreases-loop-e
+decreases-loop-e l = length l.s - l.e

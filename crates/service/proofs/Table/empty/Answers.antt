@@ -1,0 +1,6 @@
+-- `Table::empty` meets its contract: an array of default settings.
+use borrow.Author.Rules.{rules}
+use Rattle.service.proofs.Table.empty.Goals as goal
+
+pub returns : goal.returns
+returns c = rw c.default-v.ensures
