@@ -1,4 +1,6 @@
 // Tests of one service's form, phase, cause and record, as the rules name them.
+#![tactic(auto)]
+
 ghost use Rattle.std.specs.Prelude.{◌≡◌};
 ghost use Rattle.service.specs.Settings.{is_passing, starts_first, lives_up};
 ghost use Rattle.service.specs.Records.{is_down, is_waiting, is_starting, is_up, is_ending, active, is_none, is_user};

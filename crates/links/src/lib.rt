@@ -1,4 +1,6 @@
 // Which numbers a number reaches by links, and whether the links have a cycle. Row i of the rows is the set that i is linked to.
+#![tactic(auto)]
+
 ghost use Rattle.std.specs.Prelude.{◌≡◌, ◌&&◌, ◌<◌, ◌≤◌, leb, ltb, get_or, length};
 ghost use Rattle.base.specs.Folds.{pick, some};
 ghost use Rattle.base.specs.Sets.{has_bit};

@@ -1,4 +1,6 @@
 // The value of a line: what quotes, backslashes, white space and comments make of its bytes.
+#![tactic(auto)]
+
 ghost use Rattle.std.specs.Prelude.{◌≡◌, ◌-◌, ◌<◌, ◌≤◌};
 ghost use Rattle.load_value.specs.Steps.{bare_step, quote_step, step_of};
 ghost use Rattle.load_value.specs.Stores.{Put, Puts};

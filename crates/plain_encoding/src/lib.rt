@@ -1,5 +1,7 @@
 // A table and a state as plain numbers, and back: for a program that keeps them, shows them or sets them number by number.
 // The first number is the count of services or the clock, the second 0; then come sixteen for each place: twelve in paper 01's order, and 0.
+#![tactic(auto)]
+
 mod meaning;
 
 ghost use Rattle.std.specs.Prelude.{◌≡◌, ◌+◌, ◌≤◌, set};

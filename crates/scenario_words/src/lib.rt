@@ -1,4 +1,6 @@
 // The pieces of a text that a byte separates, and the numbers that words are.
+#![tactic(auto)]
+
 ghost use Rattle.std.specs.Prelude.{◌≡◌, ◌+◌, ◌≤◌, length, drop};
 ghost use Rattle.scenario_words.specs.Pieces.{piece_of, piece_count, place_of};
 ghost use Rattle.scenario_words.specs.Numbers.{with_digit, number_of, number_to};

@@ -1,0 +1,15 @@
+-- `reached` meets its contract: k rounds are done.
+use borrow.Author.Rules.{rules}
+use Prim.Native.Nat.{◌-◌}
+use Rattle.links.specs.Rows.{rows_as}
+use Rattle.links.proofs.Rounds.{Reaching, reaching_none, reaching_more, reaching_all}
+use Rattle.links.proofs.reached.Goals as goal
+
+pub loop-k-init : goal.loop-k-init
+loop-k-init c = reaching_none _ _ c.requires.1
+
+pub loop-k-preserved : goal.loop-k-preserved
+loop-k-preserved c = search reaching_more
+
+pub returns : goal.returns
+returns c = search reaching_all

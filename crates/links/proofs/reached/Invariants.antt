@@ -1,0 +1,11 @@
+use borrow.Author.Rules.{rules}
+use Prim.Native.Nat.{◌-◌}
+use Rattle.links.specs.Rows.{rows_as}
+use Rattle.links.proofs.Rounds.{Reaching, reaching_none, reaching_more, reaching_all}
+use Rattle.links.proofs.reached.Given as goal
+
+abbrev pub invariant-loop-k : goal.invariant-loop-k
+invariant-loop-k l = Reaching (rows_as l.initial.rows) l.n l.rows l.k
+
+abbrev pub decreases-loop-k : goal.decreases-loop-k
+decreases-loop-k l = l.n - l.k

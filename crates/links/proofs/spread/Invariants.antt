@@ -1,0 +1,13 @@
+use borrow.Author.Rules.{rules}
+use Prim.Native.Nat.{◌-◌}
+use mathlib.Core.Path.{refl}
+use Rattle.base.specs.Links.{reach}
+use Rattle.links.specs.Rows.{rows_as}
+use Rattle.links.proofs.Spreading.{Spreading, spreading_none, spreading_more, spreading_less, spreading_all}
+use Rattle.links.proofs.spread.Given as goal
+
+abbrev pub invariant-loop-m : goal.invariant-loop-m
+invariant-loop-m l = Spreading l.rows l.n l.s l.m l.wider
+
+abbrev pub decreases-loop-m : goal.decreases-loop-m
+decreases-loop-m l = reach (rows_as l.rows) l.n l.s - l.m

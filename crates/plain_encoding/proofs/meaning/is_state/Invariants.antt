@@ -1,0 +1,13 @@
+use borrow.Author.Rules.{rules}
+use Prim.Native.Nat.{◌-◌}
+use Rattle.base.proofs.Loops.{Every, every_all, every_more, folded_none}
+use Rattle.service.specs.Limits.{max_services}
+use Rattle.plain_encoding.specs.Meaning.{is_record, is_state}
+use Rattle.plain_encoding.specs.Numbers.{place_of}
+use Rattle.plain_encoding.proofs.meaning.is_state.Given as goal
+
+abbrev pub invariant-loop-s : goal.invariant-loop-s
+invariant-loop-s l = Every (λ i. is_record l.numbers (place_of i)) max_services l.all l.s
+
+abbrev pub decreases-loop-s : goal.decreases-loop-s
+decreases-loop-s l = max_services - l.s

@@ -1,0 +1,17 @@
+use borrow.Author.Rules.{rules}
+use Prim.Native.Nat.{◌-◌}
+use mathlib.Core.Path.{◌≡◌}
+use lib.ListN.{length}
+use Rattle.base.proofs.Lists.{length_mapped}
+use Rattle.service.specs.Limits.{max_services}
+use Rattle.service.specs.Settings.{settings_at}
+use Rattle.service.specs.Numbers.{settings_numbers}
+use Rattle.plain_encoding.specs.Numbers.{table_numbers}
+use Rattle.plain_encoding.proofs.Laws.{Writing, writing_none, writing_all, table_more}
+use Rattle.plain_encoding.proofs.write_table.Given as goal
+
+abbrev pub invariant-loop-s : goal.invariant-loop-s
+invariant-loop-s l = Writing (λ i. settings_numbers (settings_at l.t i)) l.initial.numbers max_services l.numbers l.s
+
+abbrev pub decreases-loop-s : goal.decreases-loop-s
+decreases-loop-s l = max_services - l.s

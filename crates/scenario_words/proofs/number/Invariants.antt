@@ -1,0 +1,12 @@
+use Prim.Native.Nat.{◌-◌, zero-le}
+use lib.ListN.{length}
+use Rattle.scenario_words.specs.Numbers.{number_of}
+use Rattle.scenario_words.proofs.Numbers.{Reading, reading_all, reading_more, reading_off}
+use borrow.Author.Rules.{rules}
+use Rattle.scenario_words.proofs.number.Given as goal
+
+abbrev pub invariant-loop-i : goal.invariant-loop-i
+invariant-loop-i l = Reading l.word l.value l.i
+
+abbrev pub decreases-loop-i : goal.decreases-loop-i
+decreases-loop-i l = length l.word - l.i

@@ -1,0 +1,11 @@
+use Prim.Native.Nat.{◌-◌}
+use lib.ListN.{length}
+use Rattle.scenario_words.proofs.Parting.{Ending, ending_none, ending_more, ending_here, ending_all}
+use borrow.Author.Rules.{rules}
+use Rattle.scenario_words.proofs.piece_end.Given as goal
+
+abbrev pub invariant-loop-end : goal.invariant-loop-end
+invariant-loop-end l = Ending l.parting l.text l.at l.end
+
+abbrev pub decreases-loop-end : goal.decreases-loop-end
+decreases-loop-end l = length l.text - l.end
