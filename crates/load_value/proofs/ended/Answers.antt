@@ -3,7 +3,7 @@ use borrow.Author.Rules.{rules}
 use Rattle.load_value.proofs.ended.Goals as goal
 
 pub returns-then-m : goal.returns-then-m
-returns-then-m c = rw (c.if-m.true, c.before2.ensures)
+returns-then-m c = rw (c.if-m.true, c.before-then-m.ensures)
 
 pub returns-then-m-2 : goal.returns-then-m-2
 returns-then-m-2 c = rw (c.if-m.false, c.if-m-2.true)

@@ -16,7 +16,7 @@ loop-s-init c = writing_none
 
 pub loop-s-preserved : goal.loop-s-preserved
 loop-s-preserved c =
-    let t = c.args.t2 in
+    let t = c.args.t in
     let n : length t.services ≡ max_services = search (rules, length_mapped) in
     table_more t _ n c.loop-s.invariant c.loop-s-test.true c.settings_numbers-line.ensures c.put.ensures
 
