@@ -7,6 +7,7 @@ use Rattle.load_value.proofs.Writing.{puts_part}
 use Rattle.load_description.specs.Lines.{word_read, tokens_read}
 use Rattle.load_description.proofs.Words.{single_read_lem}
 use borrow.Author.Rules.{rules}
+use borrow.Enum.Refused.{opened}
 use Rattle.load_description.proofs.read_tokens.Goals as goal
 
 pub returns-in-Command : goal.returns-in-Command
@@ -19,10 +20,10 @@ returns-then-single c =
     c.read_word_line.ensures
     ∙ ap (λ (w : List ℕ). word_read a.text.now a.d a.p a.at a.seen w)
     (c.part.ensures ∙ puts_part (word_fits a.value.now) c.write_word-n.ensures)
-    ∙ rw (single_read_lem a.text.now a.d a.p a.at a.seen a.sizes a.value.now c.in_default.in_default-own.keys2, c.if-single.true)
+    ∙ rw (single_read_lem a.text.now a.d a.p a.at a.seen a.sizes a.value.now (opened c.in_default.in_default-own.keys2), c.if-single.true)
 
 pub returns : goal.returns
 returns c =
     let a = c.args in
     c.outside.ensures
-    ∙ rw (single_read_lem a.text.now a.d a.p a.at a.seen a.sizes a.value.now c.in_default.in_default-own.keys2, c.if-single.false)
+    ∙ rw (single_read_lem a.text.now a.d a.p a.at a.seen a.sizes a.value.now (opened c.in_default.in_default-own.keys2), c.if-single.false)
