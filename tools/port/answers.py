@@ -400,13 +400,26 @@ def convert(path, folder, of, module):
                 if not plain:
                     ans.append("\n".join(lines))
                 continue
-            # a helper of the file
-            typ2 = re.sub(r"\(?\bc : tie\.(\S+)[^)]*\)", lambda m: m.group(0), typ)
-            place = re.search(rf"\(({W}) : tie\.(\S+?)(?: [^)]*)?\)", typ)
-            if place or "tie." in typ:
+            # A helper of the file: its places are named in the module of the goals, and a path in it begins at its place.
+            env = {}
+            for var, word in re.findall(rf"\(({W}) : tie\.({W})[^()]*\)", typ):
+                at = f.place(word)
+                if at:
+                    env[var] = (at, var)
+                    f.here = at
+                else:
+                    said.append(f"helper {name}: no place {word}")
+            named_places = lambda m: "goal." + (f.new_place[f.place(m.group(1))] if f.place(m.group(1)) else m.group(1) + "??")
+            text = "\n".join(clauses)
+            loose = not env and "tie." in typ + text
+            typ = re.sub(rf"tie\.({W})((?:\s+(?:invariant|decreases)[-_]{W})*)", named_places, typ)
+            text = re.sub(rf"tie\.({W})((?:\s+(?:invariant|decreases)[-_]{W})*)", named_places, text)
+            if env:
+                typ = paths(f, typ, env, name)
+                text = paths(f, text, env, name)
+            if loose or not env and re.search(r"\bbefore\b", text):
                 said.append(f"helper {name} : {typ1[:100]}")
-            body = "\n".join(clauses)
-            ans.append("\n".join([*comments, f"{marks}{name} : {typ}", *([unfolding] if unfolding else []), body]))
+            ans.append("\n".join([*comments, f"{marks}{name} : {typ}", *([unfolding] if unfolding else []), text]))
     uses = [u for u in uses if not re.search(r"\.(Statement\.\{statement\}|Tie as tie)$", u)]
     if ans:
         out = "\n".join([*head, *uses, f"use {module}.Goals as goal", ""]) + "\n" + "\n\n".join(ans) + "\n"

@@ -14,18 +14,13 @@ use Rattle.engine_calls.proofs.Accepted.{end_done}
 use borrow.Author.Rules.{rules}
 use Rattle.engine_calls.proofs.events.end.Goals as goal
 
--- the table has its places, and there is one for each service
-places : (c : tie.Start) → length c.args.t1.services ≡ max_services
-places c = search (rules, length_mapped)
-
-few : (c : tie.Then1) → c.before.before.args.t1.count ≤ max_services
-few c = formed_few _ _ _ c.before.is-formed.ensures c.if1.true
-
 pub returns-then-r : goal.returns-then-r
 unfolding record_at with_record
 returns-then-r c =
-    let l = few c.before.before.before.before.before.before in
-    end_done _ _ _ _ _ _ _ _ (settings_read c.args.t _ _ (places c.before.before.before.before.before.before.before.before) (omega (arith, c.if-s-t.true, l)))
+    -- the table has its places, and there is one for each service
+    let places : length c.args.t.services ≡ max_services = search (rules, length_mapped) in
+    let l = formed_few _ _ _ c.is_formed.ensures c.if-is_formed.true in
+    end_done _ _ _ _ _ _ _ _ (settings_read c.args.t _ _ places (omega (arith, c.if-s-t.true, l)))
     c.is_formed.ensures c.if-is_formed.true c.if-s-t.true c.if-r.true c.end_record-q.ensures
     c.done.ensures
 
@@ -49,19 +44,19 @@ unfolding outcome check
 returns c = simp (c.refuse-2.ensures, c.if-is_formed.false, ← c.is_formed.ensures)
 
 pub offset_bounds-t-s : goal.offset_bounds-t-s
-offset_bounds-t-s c = let h = few c.before in search rules
+offset_bounds-t-s c = let h = formed_few _ _ _ c.is_formed.ensures c.if-is_formed.true in search rules
 
 pub bounds-t-s : goal.bounds-t-s
-bounds-t-s c = let h = few c.before in search rules
+bounds-t-s c = let h = formed_few _ _ _ c.is_formed.ensures c.if-is_formed.true in search rules
 
 pub offset_bounds-x-s : goal.offset_bounds-x-s
-offset_bounds-x-s c = let h = few c.before.before in search rules
+offset_bounds-x-s c = let h = formed_few _ _ _ c.is_formed.ensures c.if-is_formed.true in search rules
 
 pub bounds-x-s : goal.bounds-x-s
-bounds-x-s c = let h = few c.before.before in search rules
+bounds-x-s c = let h = formed_few _ _ _ c.is_formed.ensures c.if-is_formed.true in search rules
 
 pub offset_bounds-x-s-then-r : goal.offset_bounds-x-s-then-r
-offset_bounds-x-s-then-r c = let h = few c.before.before.before.before.before in search rules
+offset_bounds-x-s-then-r c = let h = formed_few _ _ _ c.is_formed.ensures c.if-is_formed.true in search rules
 
 pub bounds-x-s-then-r : goal.bounds-x-s-then-r
-bounds-x-s-then-r c = let h = few c.before.before.before.before.before in search rules
+bounds-x-s-then-r c = let h = formed_few _ _ _ c.is_formed.ensures c.if-is_formed.true in search rules
