@@ -22,7 +22,7 @@ def flat(name):
 
 
 def clause_names(crate):
-    """The names of the clauses of each function that has several, by the function's name, in the crate's repository."""
+    """The names of the clauses of each function that has several, by its crate and name, in the crate's repository."""
     out = {}
     for folder, _, files in os.walk(os.path.join(crate, "..")):
         if os.sep + "src" not in folder:
@@ -35,7 +35,7 @@ def clause_names(crate):
             for m in re.finditer(r"\bfn (\w+)[^{;]*?((?:\n\s+(?:requires|ensures)[^\n]*)+)\n\{", text):
                 named = re.findall(r"\n\s+ensures (\w+) \{", m.group(2))
                 if len(named) > 1:
-                    out[m.group(1)] = named
+                    out[os.path.relpath(folder, os.path.join(crate, "..")).split(os.sep)[0] + "::" + m.group(1)] = named
     return out
 
 
@@ -72,7 +72,7 @@ class Function:
     def __init__(self, of, said):
         self.of = of
         self.args = {a.split(".")[-1]: b.split(".")[-1] for a, b in of["args"] if a.startswith(".args .")}
-        self.callee = {p[0]: (p[3] or "").split("::")[-1] for p in of["places"]}
+        self.callee = {p[0]: re.sub("::.*::", "::", p[3] or "") for p in of["places"]}
         self.said = said
         self.parent = {p[0]: p[1] for p in of["places"]}
         self.fields = {p[0]: p[2] for p in of["places"]}
@@ -313,7 +313,7 @@ def split_args(text):
 def convert(path, folder, of, module):
     said = []
     f = Function(of, said)
-    own = CLAUSES.get(module.split(".")[-1], [])
+    own = CLAUSES.get(module.split(".")[1] + "::" + module.split(".")[-1], [])
     with open(path, encoding="utf-8") as it:
         text = it.read()
     decls = declarations(text)
