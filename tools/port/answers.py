@@ -196,7 +196,7 @@ def paths(f, text, env, goal):
             if new is None:
                 f.said.append(f"{goal}: no step {word}{rest}.{field}{tail}")
                 new = field + "??"
-            parts = [RENAMED.get(p, p) for p in tail.split(".")]
+            parts = tail.split(".") if new == "args" else [RENAMED.get(p, p) for p in tail.split(".")]
             if len(parts) > 1:
                 parts[1] = within.get(parts[1], parts[1])
                 if len(parts) > 2 and parts[1] == "ensures" and named and parts[2].isdigit():
