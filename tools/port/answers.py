@@ -22,7 +22,7 @@ def flat(name):
 
 
 def clause_names(crate):
-    """The names of the clauses of each function that has several, by the function's name, in the crate's repository."""
+    """The names of the clauses of each function that has several, by its crate and name, in the crate's repository."""
     out = {}
     for folder, _, files in os.walk(os.path.join(crate, "..")):
         if os.sep + "src" not in folder:
@@ -35,7 +35,7 @@ def clause_names(crate):
             for m in re.finditer(r"\bfn (\w+)[^{;]*?((?:\n\s+(?:requires|ensures)[^\n]*)+)\n\{", text):
                 named = re.findall(r"\n\s+ensures (\w+) \{", m.group(2))
                 if len(named) > 1:
-                    out[m.group(1)] = named
+                    out[os.path.relpath(folder, os.path.join(crate, "..")).split(os.sep)[0] + "::" + m.group(1)] = named
     return out
 
 
@@ -72,7 +72,7 @@ class Function:
     def __init__(self, of, said):
         self.of = of
         self.args = {a.split(".")[-1]: b.split(".")[-1] for a, b in of["args"] if a.startswith(".args .")}
-        self.callee = {p[0]: (p[3] or "").split("::")[-1] for p in of["places"]}
+        self.callee = {p[0]: re.sub("::.*::", "::", p[3] or "") for p in of["places"]}
         self.said = said
         self.parent = {p[0]: p[1] for p in of["places"]}
         self.fields = {p[0]: p[2] for p in of["places"]}
@@ -196,7 +196,7 @@ def paths(f, text, env, goal):
             if new is None:
                 f.said.append(f"{goal}: no step {word}{rest}.{field}{tail}")
                 new = field + "??"
-            parts = [RENAMED.get(p, p) for p in tail.split(".")]
+            parts = tail.split(".") if new == "args" else [RENAMED.get(p, p) for p in tail.split(".")]
             if len(parts) > 1:
                 parts[1] = within.get(parts[1], parts[1])
                 if len(parts) > 2 and parts[1] == "ensures" and named and parts[2].isdigit():
@@ -313,7 +313,7 @@ def split_args(text):
 def convert(path, folder, of, module):
     said = []
     f = Function(of, said)
-    own = CLAUSES.get(module.split(".")[-1], [])
+    own = CLAUSES.get(module.split(".")[1] + "::" + module.split(".")[-1], [])
     with open(path, encoding="utf-8") as it:
         text = it.read()
     decls = declarations(text)
@@ -400,13 +400,26 @@ def convert(path, folder, of, module):
                 if not plain:
                     ans.append("\n".join(lines))
                 continue
-            # a helper of the file
-            typ2 = re.sub(r"\(?\bc : tie\.(\S+)[^)]*\)", lambda m: m.group(0), typ)
-            place = re.search(rf"\(({W}) : tie\.(\S+?)(?: [^)]*)?\)", typ)
-            if place or "tie." in typ:
+            # A helper of the file: its places are named in the module of the goals, and a path in it begins at its place.
+            env = {}
+            for var, word in re.findall(rf"\(({W}) : tie\.({W})[^()]*\)", typ):
+                at = f.place(word)
+                if at:
+                    env[var] = (at, var)
+                    f.here = at
+                else:
+                    said.append(f"helper {name}: no place {word}")
+            named_places = lambda m: "goal." + (f.new_place[f.place(m.group(1))] if f.place(m.group(1)) else m.group(1) + "??")
+            text = "\n".join(clauses)
+            loose = not env and "tie." in typ + text
+            typ = re.sub(rf"tie\.({W})((?:\s+(?:invariant|decreases)[-_]{W})*)", named_places, typ)
+            text = re.sub(rf"tie\.({W})((?:\s+(?:invariant|decreases)[-_]{W})*)", named_places, text)
+            if env:
+                typ = paths(f, typ, env, name)
+                text = paths(f, text, env, name)
+            if loose or not env and re.search(r"\bbefore\b", text):
                 said.append(f"helper {name} : {typ1[:100]}")
-            body = "\n".join(clauses)
-            ans.append("\n".join([*comments, f"{marks}{name} : {typ}", *([unfolding] if unfolding else []), body]))
+            ans.append("\n".join([*comments, f"{marks}{name} : {typ}", *([unfolding] if unfolding else []), text]))
     uses = [u for u in uses if not re.search(r"\.(Statement\.\{statement\}|Tie as tie)$", u)]
     if ans:
         out = "\n".join([*head, *uses, f"use {module}.Goals as goal", ""]) + "\n" + "\n\n".join(ans) + "\n"
