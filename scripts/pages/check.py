@@ -114,6 +114,10 @@ REQUESTED = {'W-201': ['load_text/columns_from_zero', 'load_text/column_counted_
 CASES = 'examples/README.md'
 REFUSED = r'refused \d+ service \d+ line \d+ column \d+'
 
+# The stored cases on which `rt ci` runs the programs too, with what each part is called in the crate. rt takes no link, so each stands twice.
+OF_CRATES = {'examples/simulate/march-incident': 'crates/simulate', 'examples/check_services/pair': 'crates/check_services'}
+CALLED = {'input': 'stdin', 'output': 'stdout', 'files': 'data'}
+
 # What README.md names of each demand, so that a reader needs no other page to find it.
 ON_README = ['refusal_leaves_all', 'refused_load_leaves_all', 'load', 'outcome', 'Guarantee', 'guarantee']
 
@@ -420,7 +424,7 @@ class Check:
 
     def cases(self):
         """Each answer on the page of the stored cases is stored; every refusal by check_services is on it, and every number of a load is
-        among them."""
+        among them. The cases on which `rt ci` runs the programs are those of the crates."""
         shown = set()
         for row in rows(self.whole[CASES]):
             named = quoted(row)
@@ -441,6 +445,10 @@ class Check:
             for answer in self.tree.text(output).split('\n'):
                 if answer.startswith('refused ') and (output, answer) not in shown:
                     self.fault(CASES, f'no row has the answer of {output}: {answer}')
+        for case, crate in OF_CRATES.items():
+            for part, called in CALLED.items():
+                if self.tree.held(f'{case}/{part}') != self.tree.held(f'{crate}/{called}'):
+                    self.fault(f'{case}/{part}', f'it is not what {crate}/{called} has')
 
     def decisions(self):
         """Every decision has a number, and they go up by one through the whole page."""

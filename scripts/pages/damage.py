@@ -1,5 +1,5 @@
 """Shows that `scripts/check_docs` can fail: damages a copy of the pages and sources in many small ways, one at a time, and sees each refused.
-Shows the same of `scripts/sums` and `scripts/reproduce`.
+Shows the same of `scripts/sums`, `scripts/reproduce` and `scripts/test`.
 
 It exits with 1 where a damage goes unseen, or no longer applies. It takes some seconds.
 """
@@ -178,6 +178,8 @@ DAMAGES = [
     ('a stored case answers another column', 'value-missing', {'examples/check_services/value-missing/output': swap('column 9', 'column 6')}),
     ('a refused load is not on the page of the cases', 'hash-far-along', {'examples/README.md': without_line('check_services/hash-far-along')}),
     ('no stored case is refused with a number', 'refused with 9', {'examples/README.md': without_line('check_services/last-backslash')}),
+    ('a stored case is not the one of its crate', 'simulate/stdin', {'examples/simulate/march-incident/input': swap('\n', '\n% a line more\n')}),
+    ('a file of a stored case is not the one of its crate', 'check_services/data', {'crates/check_services/data/reader': swap('\n', '\n# a line more\n')}),
     ('a page is gone', 'BENCHMARKS.md', {'docs/BENCHMARKS.md': gone}),
     ('a page is not in the README', 'SCENARIO.md', {README: without_line('docs/SCENARIO.md')}),
     ('a demand is not in the README', 'Guarantee', {README: without_line('`Guarantee`')}),
@@ -297,9 +299,10 @@ def damaged(root):
 def main():
     with tempfile.TemporaryDirectory() as work:
         root = os.path.join(work, 'copy')
-        shutil.copytree(ROOT, root, ignore=shutil.ignore_patterns('target', '.git', '__pycache__'))
-        unseen = damaged(root) + unlike.compared() + unlike.reproduced(root)
-    print(f'{len(DAMAGES) + len(unlike.COMPARED) + len(unlike.BUILDS)} damages and trials, {unseen} unseen')
+        shutil.copytree(ROOT, root, ignore=shutil.ignore_patterns('target', 'out', '.git', '__pycache__'))
+        unseen = damaged(root) + unlike.compared() + unlike.judged(root) + unlike.reproduced(root)
+    trials = [DAMAGES, unlike.COMPARED, unlike.JUDGED, unlike.BUILDS]
+    print(f'{sum(map(len, trials))} damages and trials, {unseen} unseen')
     sys.exit(1 if unseen else 0)
 
 

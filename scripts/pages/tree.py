@@ -25,6 +25,7 @@ PART = re.compile(r'(?m)^  (?:pub )?(' + NAME + '(?: ' + NAME + ')*)' + SAYS)
 # What a file brings in: the crate, the module of its definitions, and the names. A library of the toolchain is named in the same way.
 MODULE = re.compile(r'(?m)^use Rattle\.(\w+)\.specs\.(\w+)')
 IMPORTED = re.compile(r'(?m)^use Rattle\.(\w+)\.specs\.(?!declared)(\w+)\.\{([^}]*)\}')
+MADE = re.compile(r'crates/\w+/out(?:/|$)')
 FUNCTION = re.compile(r'(?m)^[ \t]*(pub )?(?:pub\(crate\) )?(?:extern "C" )?fn (\w+)')
 
 
@@ -103,11 +104,20 @@ class Tree:
         return os.path.exists(os.path.join(self.root, path))
 
     def glob(self, pattern):
-        return sorted(os.path.relpath(p, self.root) for p in glob.glob(os.path.join(self.root, pattern), recursive=True))
+        """The paths of a pattern, from the root; what rt builds in a crate's out/ is left out."""
+        paths = (os.path.relpath(p, self.root) for p in glob.glob(os.path.join(self.root, pattern), recursive=True))
+        return sorted(path for path in paths if not MADE.match(path))
 
     def text(self, path):
         with open(os.path.join(self.root, path), encoding='utf-8') as file:
             return file.read()
+
+    def held(self, path):
+        """What a file has, or each file of a folder by its name."""
+        folder = os.path.join(self.root, path)
+        if os.path.isdir(folder):
+            return {name: self.text(os.path.join(path, name)) for name in os.listdir(folder)}
+        return self.text(path) if self.exists(path) else None
 
     def bare(self, path):
         """The file without its comments."""
