@@ -21,9 +21,58 @@ def flat(name):
     return re.sub(r"^overflow", "", name)
 
 
+def clause_names(crate):
+    """The names of the clauses of each function that has several, by its crate and name, in the crate's repository."""
+    out = {}
+    for folder, _, files in os.walk(os.path.join(crate, "..")):
+        if os.sep + "src" not in folder:
+            continue
+        for name in files:
+            if not name.endswith(".rt"):
+                continue
+            with open(os.path.join(folder, name), encoding="utf-8") as it:
+                text = it.read()
+            for m in re.finditer(r"\bfn (\w+)[^{;]*?((?:\n\s+(?:requires|ensures)[^\n]*)+)\n\{", text):
+                named = re.findall(r"\n\s+ensures (\w+) \{", m.group(2))
+                if len(named) > 1:
+                    out[os.path.relpath(folder, os.path.join(crate, "..")).split(os.sep)[0] + "::" + m.group(1)] = named
+    return out
+
+
+def as_record(body, named):
+    """A tuple with a part for each named clause, as a record."""
+    text = body.rstrip()
+    if not text.endswith(")"):
+        return body
+    depth, k = 0, len(text) - 1
+    while k >= 0:
+        depth += {")": 1, "]": 1, "}": 1, "(": -1, "[": -1, "{": -1}.get(text[k], 0)
+        if depth == 0:
+            break
+        k -= 1
+    before, inner = text[:k], text[k + 1 : -1]
+    if before.strip() and not re.search(r"\bin\s*$", before):
+        return body
+    parts, depth, now = [], 0, ""
+    for ch in inner:
+        depth += {")": -1, "]": -1, "}": -1, "(": 1, "[": 1, "{": 1}.get(ch, 0)
+        if ch == "," and depth == 0:
+            parts.append(now)
+            now = ""
+        else:
+            now += ch
+    if now.strip():
+        parts.append(now)
+    if len(parts) != len(named):
+        return body
+    return before + "record { " + "; ".join(f"{n} = {p.strip()}" for n, p in zip(named, parts)) + " }"
+
+
 class Function:
     def __init__(self, of, said):
         self.of = of
+        self.args = {a.split(".")[-1]: b.split(".")[-1] for a, b in of["args"] if a.startswith(".args .")}
+        self.callee = {p[0]: re.sub("::.*::", "::", p[3] or "") for p in of["places"]}
         self.said = said
         self.parent = {p[0]: p[1] for p in of["places"]}
         self.fields = {p[0]: p[2] for p in of["places"]}
@@ -73,11 +122,12 @@ class Function:
         while at:
             old, new = self.fields[at]
             if old and (old == field or flat(old) == flat(field) or new == field):
-                return new, self.within[at]
+                return new, self.within[at], CLAUSES.get(self.callee[at], [])
             at = self.parent.get(at)
-        return None, {}
+        return None, {}, []
 
 
+CLAUSES = {}
 RENAMED = {"inv": "invariant", "taken": "true", "left": "false", "pre": "requires", "told": "ensures", "given": "is"}
 KNOWN = {"args", "requires", "ranges", "auto", "type_inv", "initial", "well_formed", "utf8", "settings"}
 
@@ -128,14 +178,14 @@ def paths(f, text, env, goal):
                 continue
             field = step.group(1)
             i += step.end()
-            within = {}
+            within, named = {}, []
             if flat(field) in {flat(k) for k in KNOWN} or field == "pre":
                 new = {"pre": "requires"}.get(field, field)
             else:
-                new, within = f.step(at, field) if at else (None, {})
+                new, within, named = f.step(at, field) if at else (None, {}, [])
                 if new is None:
                     # The older kit had a step more here: names of steps are counted, so the place of the goal finds it too.
-                    new, within = f.step(f.here, field)
+                    new, within, named = f.step(f.here, field)
             more = re.match(rf"((?:\.{W})*)", text[i:])
             tail = more.group()
             i += more.end()
@@ -146,9 +196,14 @@ def paths(f, text, env, goal):
             if new is None:
                 f.said.append(f"{goal}: no step {word}{rest}.{field}{tail}")
                 new = field + "??"
-            parts = [RENAMED.get(p, p) for p in tail.split(".")]
+            parts = tail.split(".") if new == "args" else [RENAMED.get(p, p) for p in tail.split(".")]
             if len(parts) > 1:
                 parts[1] = within.get(parts[1], parts[1])
+                if len(parts) > 2 and parts[1] == "ensures" and named and parts[2].isdigit():
+                    parts[2] = named[int(parts[2])]
+                if new == "args":
+                    # The older kit counted a parameter that has the name of a word of its own.
+                    parts[1] = f.args.get(parts[1], parts[1])
             tail = ".".join(parts)
             out.append(f"{name}.{new}{tail}")
             continue
@@ -160,6 +215,7 @@ def main(argv):
     names, crate, only = argv[0], argv[1].rstrip("/"), argv[2:]
     with open(names, encoding="utf-8") as it:
         of_all = json.load(it)
+    CLAUSES.update(clause_names(crate))
     for key, of in sorted(of_all.items()):
         m = re.match(r"Rattle-([\w]+)-proofs\.(.+)\.Lts$", key)
         if not m:
@@ -257,6 +313,7 @@ def split_args(text):
 def convert(path, folder, of, module):
     said = []
     f = Function(of, said)
+    own = CLAUSES.get(module.split(".")[1] + "::" + module.split(".")[-1], [])
     with open(path, encoding="utf-8") as it:
         text = it.read()
     decls = declarations(text)
@@ -334,6 +391,8 @@ def convert(path, folder, of, module):
                     body = m.group(2)
                     if var:
                         body = paths(f, body, {var: (f.here, var)}, new)
+                    if new.startswith("returns") and own:
+                        body = as_record(body, own)
                     nl = "\n    " if "\n" in body or len(body) > 130 else " "
                     lines.append(f"{new} {var or ''} ={nl}{body}".replace("  =", " ="))
                     if not body.strip() in PLAIN or unfolding:
@@ -341,13 +400,26 @@ def convert(path, folder, of, module):
                 if not plain:
                     ans.append("\n".join(lines))
                 continue
-            # a helper of the file
-            typ2 = re.sub(r"\(?\bc : tie\.(\S+)[^)]*\)", lambda m: m.group(0), typ)
-            place = re.search(rf"\(({W}) : tie\.(\S+?)(?: [^)]*)?\)", typ)
-            if place or "tie." in typ:
+            # A helper of the file: its places are named in the module of the goals, and a path in it begins at its place.
+            env = {}
+            for var, word in re.findall(rf"\(({W}) : tie\.({W})[^()]*\)", typ):
+                at = f.place(word)
+                if at:
+                    env[var] = (at, var)
+                    f.here = at
+                else:
+                    said.append(f"helper {name}: no place {word}")
+            named_places = lambda m: "goal." + (f.new_place[f.place(m.group(1))] if f.place(m.group(1)) else m.group(1) + "??")
+            text = "\n".join(clauses)
+            loose = not env and "tie." in typ + text
+            typ = re.sub(rf"tie\.({W})((?:\s+(?:invariant|decreases)[-_]{W})*)", named_places, typ)
+            text = re.sub(rf"tie\.({W})((?:\s+(?:invariant|decreases)[-_]{W})*)", named_places, text)
+            if env:
+                typ = paths(f, typ, env, name)
+                text = paths(f, text, env, name)
+            if loose or not env and re.search(r"\bbefore\b", text):
                 said.append(f"helper {name} : {typ1[:100]}")
-            body = "\n".join(clauses)
-            ans.append("\n".join([*comments, f"{marks}{name} : {typ}", *([unfolding] if unfolding else []), body]))
+            ans.append("\n".join([*comments, f"{marks}{name} : {typ}", *([unfolding] if unfolding else []), text]))
     uses = [u for u in uses if not re.search(r"\.(Statement\.\{statement\}|Tie as tie)$", u)]
     if ans:
         out = "\n".join([*head, *uses, f"use {module}.Goals as goal", ""]) + "\n" + "\n\n".join(ans) + "\n"

@@ -1,6 +1,8 @@
 // The calls of the engine, and all that a host needs to make them: the events and the query under this crate's name too, and here the
 // fresh state, the next action and a run to quiet; then the types that they take and give, the limits, and the numbers of what they answer. The
 // table and the state go by value: a call copies them a few times, and list 24 is judged once in each call, a run too.
+#![tactic(auto)]
+
 ghost use Rattle.std.specs.Prelude.{◌≡◌, true, suc, ◌≤◌, set};
 ghost use Rattle.service.specs.declared.RunAnswer.TheVariants.{Refused};
 ghost use Rattle.service.specs.Limits.{max_services};

@@ -1,4 +1,6 @@
 // What each rule hands out.
+#![tactic(auto)]
+
 ghost use Rattle.std.specs.Prelude.{◌≡◌};
 ghost use Rattle.rules.specs.Rules.{begun_action, term_action, end_action, expired_action, handed_by};
 

@@ -1,4 +1,6 @@
 // The calls that hand out no action: the events, and the query.
+#![tactic(auto)]
+
 mod events;
 mod times;
 

@@ -1,5 +1,7 @@
 // The choice of the next action: the first rule with any service that it fits, lowest service first. Who asks makes two passes over
 // the services: the first gathers where they stand, the second whom each rule fits; then the choice is made from the sets.
+#![tactic(auto)]
+
 mod standing;
 
 ghost use Rattle.std.specs.Prelude.{◌≡◌};

@@ -1,4 +1,6 @@
 // What becomes of one service's record: by an event, by each rule, and by settling, which both come to.
+#![tactic(auto)]
+
 mod after_event;
 mod after_rule;
 mod settling;

@@ -1,4 +1,6 @@
 // List 24: whether a table and a state are well formed; and what a service reaches by its dependencies.
+#![tactic(auto)]
+
 ghost use Rattle.std.specs.Prelude.{◌≡◌, ◌&&◌, ◌≤◌, leb, ltb};
 ghost use Rattle.base.specs.Folds.{pick, implies};
 ghost use Rattle.base.specs.Links.{reach};

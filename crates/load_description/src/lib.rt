@@ -1,4 +1,6 @@
 // What one description holds: its settings and the dependencies that it names, and what a line with a good value adds to them.
+#![tactic(auto)]
+
 ghost use Rattle.std.specs.Prelude.{◌≡◌, ◌≤◌};
 ghost use Rattle.load_value.specs.Stores.{Puts};
 ghost use Rattle.load_description.specs.Settings.{blank, value_at, word_at, link_number, max_dependencies, taken_of, is_dependency, known};

@@ -1,4 +1,6 @@
 // A lent set: the names and texts of its services in one run of bytes, with the positions where they end. Numbers 2 to 5.
+#![tactic(auto)]
+
 ghost use Rattle.std.specs.Prelude.{◌≡◌, ◌≤◌, ◌/◌, length, get_or};
 ghost use Rattle.load_lent.specs.Parts.{service_count, within, positioned, name_start, name_at, text_at};
 ghost use Rattle.load_lent.specs.Checks.{find, names_from, sizes_from};

@@ -1,4 +1,6 @@
 // The dependencies of a set resolved to sets of services, the settings of each service, and the search for a cycle. Numbers 15 and 16.
+#![tactic(auto)]
+
 ghost use Rattle.std.specs.Prelude.{◌≡◌, ◌≤◌, ◌<◌, ◌/◌, leb, length};
 ghost use Rattle.base.specs.Folds.{pick, first};
 ghost use Rattle.base.specs.Sets.{has_bit};

@@ -1,4 +1,6 @@
 // A description read line by line: each line's answer, what it does to the settings, and the whole text.
+#![tactic(auto)]
+
 ghost use Rattle.std.specs.Prelude.{◌≡◌, ◌+◌, ◌<◌, length};
 ghost use Rattle.load_text.specs.Lines.{lines_of};
 ghost use Rattle.load_text.proofs.Lines.{Inside};

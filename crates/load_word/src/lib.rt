@@ -1,4 +1,6 @@
 // The words of a description: names of properties, the values of those that are no commands, names of services.
+#![tactic(auto)]
+
 ghost use Rattle.std.specs.Prelude.{◌≡◌, true, ◌-◌, ◌^◌, ◌≤◌};
 ghost use Rattle.load_text.specs.Bytes.{is_digit};
 ghost use Rattle.load_text.specs.Strings.{index_from};

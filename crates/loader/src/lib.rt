@@ -1,4 +1,6 @@
 // A set of descriptions, lent as bytes and positions, loaded to the table of its services. It hands on all that a host of the load needs.
+#![tactic(auto)]
+
 mod tokens;
 
 ghost use Rattle.std.specs.Prelude.{◌≡◌, ◌≤◌, length, replicate};

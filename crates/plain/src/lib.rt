@@ -1,5 +1,7 @@
 // The load and the calls over plain numbers: table and state are lent as numbers, and the answers are numbers. A call with numbers that stand
 // for no table or no state is refused with 24.
+#![tactic(auto)]
+
 mod forms;
 
 ghost use Rattle.std.specs.Prelude.{◌≡◌, ◌<◌, eqb};

@@ -1,5 +1,7 @@
 // A line of a scenario, read to what it asks for. A line is held to forms in turn, word by word; some lines are known by
 // their first byte or word, and a load with positions has a form of its own.
+#![tactic(auto)]
+
 ghost use Rattle.std.specs.Prelude.{◌≡◌, ◌≤◌};
 ghost use Rattle.scenario_words.specs.Pieces.{pieces_of};
 ghost use Rattle.scenario_lines.specs.Forms.{named_verbs, most_of, value_of, value_at, begins_as, fits_form, form_of, read_form};

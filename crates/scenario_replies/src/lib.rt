@@ -1,4 +1,6 @@
 // The answers of the scenario format: their texts, and which text with which numbers an answer is.
+#![tactic(auto)]
+
 ghost use Rattle.std.specs.Prelude.{◌≡◌};
 ghost use Rattle.scenario_replies.specs.Texts.{texts, lined, places};
 ghost use Rattle.scenario_replies.specs.Replies.{reply_of, ok_reply, bad_reply, refused_reply, event_reply, action_text, action_signal, next_reply, query_reply, load_reply};

@@ -1,4 +1,6 @@
 // The services that a scenario has given so far, as they are lent to a load: names and texts one after the other, and where each ends.
+#![tactic(auto)]
+
 ghost use Rattle.std.specs.Prelude.{◌≡◌, ◌≤◌, length, take, set};
 ghost use Rattle.base.specs.Folds.{fold};
 ghost use Rattle.load_text.specs.Strings.{part_of};

@@ -1,4 +1,6 @@
 // The lines of a scenario that set a number of the table or the state.
+#![tactic(auto)]
+
 ghost use Rattle.std.specs.Prelude.{◌≡◌, ◌-◌, ◌≤◌, set as with};
 ghost use Rattle.scenario_lines.specs.Lines.{set_table, set_table_last};
 ghost use Rattle.scenario_setting.specs.Setting.{number_set, deadline_set, record_set, setting_place, state_after, table_after};

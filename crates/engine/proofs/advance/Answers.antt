@@ -1,0 +1,105 @@
+-- `advance` meets its contract: k actions are handed out; in each step two passes gather the sets, and the choice is made from them.
+use Prim.Native.Nat.{ℕ, ◌-◌, ◌<◌}
+use native.Mathlib.Nat.{le_trans}
+use mathlib.Core.Path.{◌≡◌}
+use lib.ListN.{get_or, length}
+use Rattle.base.proofs.Lists.{length_mapped}
+use Rattle.base.proofs.Loops.{Folded, folded_none}
+use Rattle.service.specs.Limits.{max_services}
+use Rattle.service.specs.Settings.{settings_at}
+use Rattle.service.specs.Records.{record_at, with_record}
+use Rattle.service.specs.declared.Settings.{Settings}
+use Rattle.service.proofs.Reading.{settings_read}
+use Rattle.engine_choice.specs.Standing.{nowhere, noting}
+use Rattle.engine_choice.proofs.Passes.{Fitting, fitting_none, fitting_more, noting_more}
+use Rattle.engine.proofs.Running.{Running, running_none, running_room, running_all, turn_inside, turn_quiet, turn_on}
+use borrow.Author.Rules.{rules}
+use Rattle.engine.proofs.advance.Goals as goal
+
+pub loop-k-init : goal.loop-k-init
+loop-k-init c =
+    let z : length c.args.x.records ≡ max_services = search (rules, length_mapped) in
+    running_none c.requires.0 z
+
+pub loop-i-init : goal.loop-i-init
+loop-i-init c = rw c.none-st.ensures folded_none
+
+pub loop-i-preserved : goal.loop-i-preserved
+unfolding record_at
+loop-i-preserved c =
+    let more = c.loop-i-test.true in
+    -- the table has its places, so that what is read of one of them is the settings there
+    let places : length c.args.t.services ≡ max_services = search (rules, length_mapped) in
+    noting_more c.args.t c.loop-k.y c.loop-i.invariant more (settings_read c.args.t _ _ places (le_trans more c.requires.1)) c.noted-st.ensures
+
+pub loop-j-init : goal.loop-j-init
+loop-j-init c = search fitting_none
+
+pub loop-j-preserved : goal.loop-j-preserved
+unfolding record_at
+loop-j-preserved c =
+    let more = c.loop-j-test.true in
+    -- the table has its places, so that what is read of one of them is the settings there
+    let places : length c.args.t.services ≡ max_services = search (rules, length_mapped) in
+    fitting_more c.loop-j.invariant more (settings_read c.args.t _ _ places (le_trans more c.requires.1)) c.fit-f.ensures
+
+pub returns-in_default : goal.returns-in_default
+returns-in_default c = search turn_quiet
+
+-- ---- from the place where a rule and a service are chosen: the choice, the second pass and the loop's turn
+
+pub offset_bounds-t-s : goal.offset_bounds-t-s
+offset_bounds-t-s c =
+    let l = turn_inside c.loop-k.invariant c.requires.1 c.loop-j.invariant c.loop-j-test.false c.choose-c.ensures c.in-Fit.is in
+    search rules
+
+pub bounds-t-s : goal.bounds-t-s
+bounds-t-s c =
+    turn_inside c.loop-k.invariant c.requires.1 c.loop-j.invariant c.loop-j-test.false c.choose-c.ensures c.in-Fit.is
+
+pub offset_bounds-y-s : goal.offset_bounds-y-s
+offset_bounds-y-s c =
+    let l = turn_inside c.loop-k.invariant c.requires.1 c.loop-j.invariant c.loop-j-test.false c.choose-c.ensures c.in-Fit.is in
+    search rules
+
+pub bounds-y-s : goal.bounds-y-s
+bounds-y-s c =
+    turn_inside c.loop-k.invariant c.requires.1 c.loop-j.invariant c.loop-j-test.false c.choose-c.ensures c.in-Fit.is
+
+pub offset_bounds-y-s-in-loop-k : goal.offset_bounds-y-s-in-loop-k
+offset_bounds-y-s-in-loop-k c =
+    let l = turn_inside c.loop-k.invariant c.requires.1 c.loop-j.invariant c.loop-j-test.false c.choose-c.ensures c.in-Fit.is in
+    search rules
+
+pub bounds-y-s-in-loop-k : goal.bounds-y-s-in-loop-k
+bounds-y-s-in-loop-k c =
+    turn_inside c.loop-k.invariant c.requires.1 c.loop-j.invariant c.loop-j-test.false c.choose-c.ensures c.in-Fit.is
+
+pub write_action-requires : goal.write_action-requires
+write_action-requires c = running_room c.loop-k.invariant c.requires.2 c.loop-k-test.true
+
+pub overflow_add-k : goal.overflow_add-k
+overflow_add-k c =
+    let few = c.requires.2.few in
+    let l = c.loop-k-test.true in
+    search rules
+
+pub loop-k-smaller : goal.loop-k-smaller
+loop-k-smaller c =
+    let l = c.loop-k-test.true in
+    search rules
+
+pub loop-k-preserved : goal.loop-k-preserved
+unfolding record_at with_record
+loop-k-preserved c =
+    -- the table has its places, so that what is read of one of them is the settings there
+    let places : length c.args.t.services ≡ max_services = search (rules, length_mapped) in
+    let inside = turn_inside c.loop-k.invariant c.requires.1 c.loop-j.invariant c.loop-j-test.false c.choose-c.ensures c.in-Fit.is in
+    turn_on c.loop-k.invariant c.requires.1 c.loop-j.invariant c.loop-j-test.false
+    c.choose-c.ensures c.loop-k-test.true c.in-Fit.is
+    (settings_read c.args.t _ _ places inside)
+    c.overlaps-user.ensures c.leave-q.ensures c.hand_out-last.ensures
+    c.write_action.ensures.services_after c.write_action.ensures.actions_after
+
+pub returns : goal.returns
+returns c = search running_all

@@ -1,0 +1,6 @@
+-- `write_action` meets its contract: by the numbers of the action.
+use borrow.Author.Rules.{rules}
+use Rattle.engine.proofs.write_action.Goals as goal
+
+pub returns : goal.returns
+returns c = record { services_after = rw c.action_service.ensures; actions_after = rw c.action_number.ensures }

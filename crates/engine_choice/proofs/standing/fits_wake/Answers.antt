@@ -1,0 +1,6 @@
+-- `fits_wake` meets its contract: by the tests that it calls.
+use borrow.Author.Rules.{rules}
+use Rattle.engine_choice.proofs.standing.fits_wake.Goals as goal
+
+pub returns : goal.returns
+returns c = cc

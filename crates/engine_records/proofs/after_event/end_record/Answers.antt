@@ -1,0 +1,64 @@
+-- `end_record` meets its contract: each phase by its own arm.
+use Rattle.engine_records.specs.Sound.{sound}
+use Rattle.rules.specs.Events.{ended_as}
+use borrow.Author.Rules.{rules}
+use Rattle.engine_records.proofs.after_event.end_record.Goals as goal
+
+pub returns-in-Down : goal.returns-in-Down
+unfolding ended_as
+returns-in-Down c = simp (c.in-Down.is, c.dead_record-d.ensures, c.if-is_sound.true, ← c.is_sound.ensures)
+
+pub returns-in-Waiting : goal.returns-in-Waiting
+unfolding ended_as
+returns-in-Waiting c = simp (c.in-Waiting.is, c.dead_record-d.ensures, c.if-is_sound.true, ← c.is_sound.ensures)
+
+pub returns-then-brings_up : goal.returns-then-brings_up
+unfolding ended_as
+returns-then-brings_up c =
+    simp (
+      c.started_up.ensures,
+      ← c.brings_up.ensures,
+      c.if-brings_up.true,
+      c.in-Starting.is,
+      c.dead_record-d.ensures,
+      c.if-is_sound.true,
+      ← c.is_sound.ensures,
+    )
+
+pub returns-else-brings_up : goal.returns-else-brings_up
+unfolding ended_as
+returns-else-brings_up c =
+    simp (
+      c.at_rest.ensures,
+      ← c.brings_up.ensures,
+      c.if-brings_up.false,
+      c.in-Starting.is,
+      c.dead_record-d.ensures,
+      c.if-is_sound.true,
+      ← c.is_sound.ensures,
+    )
+
+pub returns-in-Up : goal.returns-in-Up
+unfolding ended_as
+returns-in-Up c =
+    simp (
+      c.fallen.ensures,
+      c.in-Up.is,
+      c.dead_record-d.ensures,
+      c.if-is_sound.true,
+      ← c.is_sound.ensures,
+    )
+
+pub returns-in-Ending : goal.returns-in-Ending
+unfolding sound ended_as
+returns-in-Ending c =
+    simp (
+      c.settle.ensures,
+      c.in-Ending.is,
+      c.dead_record-d.ensures,
+      c.if-is_sound.true,
+      ← c.is_sound.ensures,
+    )
+
+pub returns : goal.returns
+returns c = simp (c.if-is_sound.false, ← c.is_sound.ensures)

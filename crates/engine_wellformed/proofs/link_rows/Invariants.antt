@@ -1,0 +1,15 @@
+use borrow.Author.Rules.{rules}
+use Prim.Native.Nat.{◌-◌}
+use mathlib.Core.Path.{refl}
+use Rattle.base.proofs.Lists.{length_mapped}
+use Rattle.base.proofs.Filled.{Filling, filling_none, filling_all}
+use Rattle.service.specs.Limits.{max_services}
+use Rattle.rules.specs.Dependencies.{all_links}
+use Rattle.engine_wellformed.proofs.Read.{filling_read}
+use Rattle.engine_wellformed.proofs.link_rows.Given as goal
+
+abbrev pub invariant-loop-i : goal.invariant-loop-i
+invariant-loop-i l = Filling 0 (all_links l.t) max_services l.t.count l.rows l.i
+
+abbrev pub decreases-loop-i : goal.decreases-loop-i
+decreases-loop-i l = l.t.count - l.i

@@ -1,0 +1,6 @@
+-- `links_inside` meets its contract: by the tests that it calls.
+use borrow.Author.Rules.{rules}
+use Rattle.engine_wellformed.proofs.links_inside.Goals as goal
+
+pub returns : goal.returns
+returns c = cc

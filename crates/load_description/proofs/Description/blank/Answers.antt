@@ -1,0 +1,6 @@
+-- `blank` meets its contract.
+use borrow.Author.Rules.{rules}
+use Rattle.load_description.proofs.Description.blank.Goals as goal
+
+pub returns : goal.returns
+returns c = rw c.default.ensures

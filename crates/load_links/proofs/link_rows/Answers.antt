@@ -1,0 +1,18 @@
+-- `link_rows` meets its contract: the rows below i are filled.
+use borrow.Author.Rules.{rules}
+use Prim.Native.Nat.{◌-◌}
+use mathlib.Core.Path.{refl}
+use Rattle.base.proofs.Filled.{Filling, filling_none, filling_all}
+use Rattle.service.specs.Limits.{max_services}
+use Rattle.load_links.specs.Links.{links_at}
+use Rattle.load_links.proofs.Cycles.{rows_more}
+use Rattle.load_links.proofs.link_rows.Goals as goal
+
+pub loop-i-init : goal.loop-i-init
+loop-i-init c = filling_none c.requires refl
+
+pub loop-i-preserved : goal.loop-i-preserved
+loop-i-preserved c = search rows_more
+
+pub returns : goal.returns
+returns c = search filling_all

@@ -1,0 +1,14 @@
+-- `with_command` meets its contract: a stop-command is noted in the settings too.
+use Rattle.service.specs.Numbers.{settings_from}
+use Rattle.service.proofs.Numbering.{kind_back, signal_back, flag_back}
+use borrow.Author.Rules.{rules}
+use Rattle.load_reader.proofs.with_command.Goals as goal
+
+pub returns-in-Start : goal.returns-in-Start
+returns-in-Start c = rw c.in-Start.is
+
+pub returns-in-Stop : goal.returns-in-Stop
+unfolding settings_from
+returns-in-Stop c =
+    let v = c.args.d.settings in
+    rw (c.in-Stop.is, (kind_back v.kind).0, (signal_back v.signal).0, flag_back v.restart)

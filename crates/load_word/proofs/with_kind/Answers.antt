@@ -1,0 +1,10 @@
+-- `with_kind` meets its contract: every other setting is what its number is read back as.
+use Rattle.service.specs.Numbers.{settings_from}
+use Rattle.service.proofs.Numbering.{kind_back, signal_back, flag_back}
+use Rattle.load_word.proofs.with_kind.Goals as goal
+
+pub returns : goal.returns
+unfolding settings_from
+returns c =
+    let v = c.args.v in
+    rw ((kind_back c.args.kind).0, (signal_back v.signal).0, flag_back v.restart, flag_back v.has_stop)

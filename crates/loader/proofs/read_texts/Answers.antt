@@ -1,0 +1,7 @@
+-- `read_texts` meets its contract.
+use Rattle.loader.proofs.Laws.{texts_blank}
+use borrow.Author.Rules.{rules}
+use Rattle.loader.proofs.read_texts.Goals as goal
+
+pub returns : goal.returns
+returns c = texts_blank _ _ c.blank-none.ensures c.read_into.ensures

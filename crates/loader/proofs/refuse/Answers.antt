@@ -1,0 +1,9 @@
+-- `refuse` meets its contract.
+use mathlib.Core.Path.{ap}
+use Rattle.service.specs.declared.Table.{Table}
+use Rattle.loader.specs.Tokens.{no_commands}
+use borrow.Author.Rules.{rules}
+use Rattle.loader.proofs.refuse.Goals as goal
+
+pub returns : goal.returns
+returns c = ap (λ (t : Table). record { answer = c.args.answer; table = t; commands = no_commands }) c.empty-table.ensures

@@ -1,0 +1,16 @@
+use borrow.Author.Rules.{rules}
+use Prim.Native.Nat.{◌-◌}
+use lib.ListN.{get_or}
+use Rattle.base.proofs.Lists.{length_mapped}
+use Rattle.base.proofs.Loops.{Folded, folded_none, folded_more, folded_all}
+use Rattle.service.specs.Limits.{max_services}
+use Rattle.loader.specs.Tokens.{no_tokens}
+use Rattle.plain.specs.Loads.{counted, counts_of}
+use Rattle.plain.proofs.write_counts.Given as goal
+
+abbrev pub invariant-loop-s : goal.invariant-loop-s
+invariant-loop-s l =
+    Folded (λ m i. counted m i (get_or l.commands i (record { start = no_tokens; stop = no_tokens }))) l.initial.counts max_services l.counts l.s
+
+abbrev pub decreases-loop-s : goal.decreases-loop-s
+decreases-loop-s l = max_services - l.s

@@ -1,0 +1,17 @@
+-- `most` meets its contract.
+use Rattle.load_text.specs.Strings.{bytes}
+use Rattle.scenario_lines.proofs.Forms.{most_read, most_service}
+use borrow.Author.Rules.{rules}
+use Rattle.scenario_lines.proofs.most.Goals as goal
+
+pub returns-then-same_bytes : goal.returns-then-same_bytes
+unfolding bytes
+returns-then-same_bytes c = most_service _ c.same_bytes.ensures c.if-same_bytes.true
+
+pub returns-then-read : goal.returns-then-read
+unfolding bytes
+returns-then-read c = most_read _ c.same_bytes.ensures c.if-same_bytes.false c.tail.ensures c.number-read.ensures c.if-read.true
+
+pub returns : goal.returns
+unfolding bytes
+returns c = most_read _ c.same_bytes.ensures c.if-same_bytes.false c.tail.ensures c.number-read.ensures c.if-read.false

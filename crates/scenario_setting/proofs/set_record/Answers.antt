@@ -1,0 +1,6 @@
+-- `set_record` meets its contract.
+use borrow.Author.Rules.{rules}
+use Rattle.scenario_setting.proofs.set_record.Goals as goal
+
+pub returns : goal.returns
+returns c = rw (← c.set_deadline.ensures) c.set_number.ensures
