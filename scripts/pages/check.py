@@ -89,7 +89,7 @@ KINDS = (functions.TRUSTED, '-- Of the code: ')
 FIRST_PAGE_END, FIRST_PAGE_LINES = '\n---\n', 50
 FIRST_PAGE = ['`depends-on: reader`', '`Guarantee`', '`crates/guarantee/specs/Guarantee.antt`', '`guarantee`',
               '`crates/guarantee/proofs/Guarantee.antt`', 'A live process is what the host counts', HOST, INDEX, '`scripts/check_docs`',
-              '`rt check guarantee`', '`scripts/test`', '`scripts/reproduce`', '`scripts/sums`', marked.mark(sums.SCRIPT).strip()]
+              '`rt ci guarantee`', '`scripts/test`', '`scripts/reproduce`', '`scripts/sums`', marked.mark(sums.SCRIPT).strip()]
 
 # The words of the demands and the requests whose definitions must stand in the index, under this heading.
 WORDS_HEADING = '## What the words mean'
@@ -122,7 +122,7 @@ CALLED = {'input': 'stdin', 'output': 'stdout', 'files': 'data'}
 ON_README = ['refusal_leaves_all', 'refused_load_leaves_all', 'load', 'outcome', 'Guarantee', 'guarantee']
 
 # Quoted words of a page that are nobody's declaration: programs, libraries and words of the toolchain's verdict, signs of Rattle's own.
-FOREIGN = {'rt', 'cargo', 'python3', 'valgrind', 'libc', 'os', 'io', 'check', 'requires', 'ensures', 'specs', 'proofs', 'memcpy'}
+FOREIGN = {'rt', 'cargo', 'python3', 'valgrind', 'std', 'check', 'requires', 'ensures', 'specs', 'proofs', 'memcpy'}
 
 # The crates that a host names; they hand on what they are made of.
 HANDED_ON_BY = ('engine', 'loader')
