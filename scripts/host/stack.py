@@ -73,6 +73,10 @@ class Code:
                 total += 8
             elif words[:3] == ['mov', '%rsp', '%r11']:
                 probed = 'next'
+            elif re.match(r'lea +-0x[0-9a-f]+\(%rsp\),%r11$', line):
+                # The same in one step.
+                probed = int(re.search(r'-0x([0-9a-f]+)', line)[1], 16)
+                total += probed
             elif probed == 'next':
                 # A large frame is entered page by page, down to this register: its loop subtracts a page each time.
                 probed = self.number(words[1]) if words[0] == 'sub' and words[2] == '%r11' else None
