@@ -19,14 +19,8 @@ from tree import NAME, ROOT, Tree
 AUDIT, DESIGN, HOST, DECISIONS, README = 'docs/AUDIT.md', 'docs/DESIGN.md', 'docs/HOST.md', 'docs/DECISIONS.md', 'README.md'
 ELSEWHERE = ['second/README.md', 'tools/README.md', 'examples/README.md']
 
-def either(path):
-    """A file of definitions, or the file of proofs of the same name."""
-    return path, path.replace('/specs/', '/proofs/')
-
-
 # What the three demands and the requests rest on: a statement's name, its file, and how it is declared there. Nothing else in the tree need cite
-# these, so only this list sees it where one is renamed, weakened or taken off the page. What is computed over cases may stand beside the cases or
-# among the proofs.
+# these, so only this list sees it where one is renamed, weakened or taken off the page.
 PROMISED = [
     ('refusal_leaves_all', 'crates/rules/proofs/Refusals.antt',
      'pub refusal_leaves_all : (c : Call) → is_refused (outcome t x c).answer ≡ true → (k : ℕ) × (outcome t x c ≡ gives c (refused k) x)'),
@@ -47,7 +41,7 @@ PROMISED = [
     ('query', 'crates/engine_calls/src/times.rt', '{ query_outcome result x ≡ outcome t x queryCall }'),
     ('fresh', 'crates/engine/src/lib.rt', '{ result ≡ fresh_state }'),
     ('cases', 'crates/guarantee/specs/Worked.antt', 'abbrev pub cases : List Case'),
-    ('worked', either('crates/guarantee/specs/Worked.antt'), 'pub worked : AllPass cases'),
+    ('worked', 'crates/guarantee/specs/Worked.antt', 'pub worked : AllPass cases'),
     ('Guarantee', 'crates/guarantee/specs/Guarantee.antt', '(cs : List Call) → Holds (load lent ends tokens).loaded.table cs'),
     ('guarantee', 'crates/guarantee/proofs/Guarantee.antt', 'pub guarantee : Guarantee'),
     ('loads_formed', 'crates/guarantee/proofs/Loaded.antt', 'pub loads_formed : LoadsFormed'),
@@ -69,8 +63,8 @@ PROMISED = [
     ('line_and_column_tell', 'crates/load_text/proofs/Offsets.antt', 'pub line_and_column_tell : LineAndColumnTell'),
     ('refused_in', 'crates/load_lent/src/lib.rt', '{ result ≡ refused_in text.now j f }'),
     ('column_number', 'crates/load_text/src/lib.rt', '{ result ≡ column_number s.now at }'),
-    ('pair_loads', either('crates/loader/specs/Examples.antt'), 'pub pair_loads : load_of pair 30 ≡ pair_loaded'),
-    ('readings_hold', either('crates/rules/specs/Readings.antt'), 'pub readings_hold : AllGiven readings'),
+    ('pair_loads', 'crates/loader/specs/Examples.antt', 'pub pair_loads : load_of pair 30 ≡ pair_loaded'),
+    ('readings_hold', 'crates/rules/specs/Readings.antt', 'pub readings_hold : AllGiven readings'),
 ]
 
 # Where the statements stand that the auditor's page prints.
@@ -286,11 +280,8 @@ class Check:
     def statements(self):
         """What carries the demands is declared as it was when the page was written, and stands on the page beside its file."""
         audit = rows(self.whole[AUDIT])
-        for name, place, words in PROMISED:
-            places = place if isinstance(place, tuple) else (place,)
-            has = [file for file in places if self.tree.exists(file) and words in ' '.join(self.tree.bare(file).split())]
-            file = (has or places)[0]
-            if not has:
+        for name, file, words in PROMISED:
+            if not self.tree.exists(file) or words not in ' '.join(self.tree.bare(file).split()):
                 self.fault(file, f'{name} is no longer declared as: {words}')
             if not any(f'`{name}`' in row and f'`{file}`' in row for row in audit):
                 self.fault(AUDIT, f'no row has {name} with {file}')

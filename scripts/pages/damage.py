@@ -12,7 +12,7 @@ import tempfile
 import marked
 import sums
 import unlike
-from check import FIRST_PAGE_END, either, faults
+from check import FIRST_PAGE_END, faults
 from functions import INDEX
 from tree import ROOT
 
@@ -98,11 +98,6 @@ def read(place):
         return file.read()
 
 
-def home(path, words):
-    """The file of definitions that declares a theorem over cases, or the file of proofs of the same name."""
-    return next(place for place in either(path) if words in (read(os.path.join(ROOT, place)) or ''))
-
-
 def changed_sum(text):
     """The page with a sum that is a digit short."""
     before, held, after = marked.split(text, sums.SCRIPT)
@@ -119,7 +114,7 @@ DAMAGES = [
     ('a theorem is commented out', 'guarantee', {f'{GUARANTEE}/proofs/Guarantee.antt': comment_out('pub guarantee : Guarantee')}),
     ('another is', 'refused_load_leaves_all',
      {f'{GUARANTEE}/proofs/Refusals.antt': comment_out('pub refused_load_leaves_all : RefusedLoadLeavesAll')}),
-    ('the worked examples are', 'worked', {home(f'{GUARANTEE}/specs/Worked.antt', WORKED): comment_out(WORKED)}),
+    ('the worked examples are', 'worked', {f'{GUARANTEE}/specs/Worked.antt': comment_out(WORKED)}),
     ('a theorem says less', 'demand3', {f'{RULES}/proofs/Demand.antt': swap('pub demand3 : Demand3', 'pub demand3 : Unit')}),
     ('the statement says less', 'Guarantee', {f'{GUARANTEE}/specs/Guarantee.antt': swap('→ Holds (load', '→ Held (load')}),
     ('the law of lines and columns says less', 'LineAndColumnTell',
@@ -142,7 +137,7 @@ DAMAGES = [
     ('a contract cites another definition', 'stop_all', {'crates/engine_calls/src/events.rt': swap('outcome t x stop_all }', 'outcome t x nextCall }')}),
     ('a statement is renamed', 'always_safe', {f'{RULES}/proofs/Safety.antt': rename('always_safe', 'mostly_safe')}),
     ('a statement of cases is renamed', 'readings_hold',
-     {home(f'{RULES}/specs/Readings.antt', 'readings_hold : '): rename('readings_hold', 'readings_pass')}),
+     {f'{RULES}/specs/Readings.antt': rename('readings_hold', 'readings_pass')}),
     ('the table of cases is renamed', 'cases', {f'{GUARANTEE}/specs/Worked.antt': rename('cases', 'samples')}),
     ('a definition is renamed', 'fits', {f'{RULES}/specs/Rules.antt': rename('fits', 'suits')}),
     ('a word of the demand is renamed', 'sent', {f'{RULES}/specs/Demand.antt': rename('sent', 'mailed')}),
