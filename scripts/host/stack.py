@@ -38,9 +38,10 @@ CALLS = [
     ('every call of plain, its load too, with the caller', 'simulate', 'simulate::obey', 'simulate::|scenario_|rattle_'),
 ]
 
-# The loops of `bench`, and below `main` the functions on the deepest way of each. The compiler has put the last three into the program's own
-# function; a run there begins with a start.
-BELOW, CHECK = ['main', 'bench::main'], ['engine_wellformed::is_formed', 'links::has_cycle']
+# The loops of `bench`, and below the program's own function those on the deepest way of each. The compiler has put the last three into that function; a
+# run there begins with a start. The few words of the C function `main` are counted with the start of the process: where the processor is too old for the
+# program, it ends there with a message, on a frame of another kind.
+BELOW, CHECK = ['bench::main'], ['engine_wellformed::is_formed', 'links::has_cycle']
 EVENT = ['bench::event_loop'] + CHECK
 WAYS = {
     'start': ['bench::event_loop', 'engine_calls::events::start'] + CHECK,
@@ -72,6 +73,10 @@ class Code:
                 total += 8
             elif words[:3] == ['mov', '%rsp', '%r11']:
                 probed = 'next'
+            elif re.match(r'lea +-0x[0-9a-f]+\(%rsp\),%r11$', line):
+                # The same in one step.
+                probed = int(re.search(r'-0x([0-9a-f]+)', line)[1], 16)
+                total += probed
             elif probed == 'next':
                 # A large frame is entered page by page, down to this register: its loop subtracts a page each time.
                 probed = self.number(words[1]) if words[0] == 'sub' and words[2] == '%r11' else None
@@ -101,8 +106,9 @@ class Code:
             to = re.match(r'(call|jmp)q? +(.*)$', line)  # older disassemblers write callq and jmpq
             if not to:
                 continue
-            place = re.match(r'[0-9a-f]+ <([^+]+)>$', to[2])
-            if place and place[1] != name:
+            # A place inside a function has its distance from the start; a name may have a + of its own.
+            place = re.match(r'[0-9a-f]+ <(.+?)(\+0x[0-9a-f]+)?>$', to[2])
+            if place and not place[2] and place[1] != name:
                 found.add(place[1])
             elif to[1] == 'call' and to[2].startswith('*'):
                 raise SystemExit(f'stack: {name} calls by a pointer: {line}')

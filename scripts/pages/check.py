@@ -22,49 +22,49 @@ ELSEWHERE = ['second/README.md', 'tools/README.md', 'examples/README.md']
 # What the three demands and the requests rest on: a statement's name, its file, and how it is declared there. Nothing else in the tree need cite
 # these, so only this list sees it where one is renamed, weakened or taken off the page.
 PROMISED = [
-    ('refusal-leaves-all', 'crates/rules/proofs/Refusals.antt',
-     'pub refusal-leaves-all : (c : Call) → isRefused (outcome t x c .answer) ≡ true → (k : ℕ) × (outcome t x c ≡ gives c (refused k) x)'),
+    ('refusal_leaves_all', 'crates/rules/proofs/Refusals.antt',
+     'pub refusal_leaves_all : (c : Call) → is_refused (outcome t x c).answer ≡ true → (k : ℕ) × (outcome t x c ≡ gives c (refused k) x)'),
     ('RefusedLoadLeavesAll', 'crates/guarantee/specs/Guarantee.antt', 'abbrev pub RefusedLoadLeavesAll : Type 0'),
-    ('refused-load-leaves-all', 'crates/guarantee/proofs/Refusals.antt', 'pub refused-load-leaves-all : RefusedLoadLeavesAll'),
+    ('refused_load_leaves_all', 'crates/guarantee/proofs/Refusals.antt', 'pub refused_load_leaves_all : RefusedLoadLeavesAll'),
     ('load', 'crates/loader/specs/Load.antt', 'unfoldable pub load : List ℕ → List ℕ → List ℕ → Outcome'),
     ('load', 'crates/loader/src/lib.rt',
-     '(record { loaded = r; buffer = now (tokens .exit) }) (load (now (lent .entry)) (now (ends .entry)) (now (tokens .entry)))'),
+     '(record { loaded = result; buffer = tokens.new }) (load lent.now ends.now tokens.old) }'),
     ('outcome', 'crates/rules/specs/Calls.antt', 'unfoldable pub outcome : Table → State → Call → Outcome'),
-    ('start', 'crates/engine_calls/src/events.rt', 'changedOutcome y ≡ outcome t x (startCall s)'),
-    ('stop', 'crates/engine_calls/src/events.rt', 'changedOutcome y ≡ outcome t x (stopCall s)'),
-    ('stop_all', 'crates/engine_calls/src/events.rt', 'changedOutcome y ≡ outcome t x stopAll'),
-    ('end', 'crates/engine_calls/src/events.rt', 'changedOutcome y ≡ outcome t x (endCall s good)'),
-    ('clock', 'crates/engine_calls/src/events.rt', 'changedOutcome y ≡ outcome t x (clockCall to)'),
-    ('next_action', 'crates/engine/src/lib.rt', 'steppedOutcome y ≡ outcome t x nextCall'),
+    ('start', 'crates/engine_calls/src/events.rt', '{ changed_outcome result ≡ outcome t x (startCall s) }'),
+    ('stop', 'crates/engine_calls/src/events.rt', '{ changed_outcome result ≡ outcome t x (stopCall s) }'),
+    ('stop_all', 'crates/engine_calls/src/events.rt', '{ changed_outcome result ≡ outcome t x stop_all }'),
+    ('end', 'crates/engine_calls/src/events.rt', '{ changed_outcome result ≡ outcome t x (endCall s good) }'),
+    ('clock', 'crates/engine_calls/src/events.rt', '{ changed_outcome result ≡ outcome t x (clockCall to) }'),
+    ('next_action', 'crates/engine/src/lib.rt', '{ stepped_outcome result ≡ outcome t x nextCall }'),
     ('run_to_quiet', 'crates/engine/src/lib.rt',
-     'ranOutcome r (now (services .exit)) (now (actions .exit)) ≡ outcome t x (runCall (now (services .entry)) (now (actions .entry)))'),
-    ('query', 'crates/engine_calls/src/times.rt', 'queryOutcome a x ≡ outcome t x queryCall'),
-    ('fresh', 'crates/engine/src/lib.rt', 'x ≡ freshState'),
+     '{ ran_outcome result services.new actions.new ≡ outcome t x (runCall services.old actions.old) }'),
+    ('query', 'crates/engine_calls/src/times.rt', '{ query_outcome result x ≡ outcome t x queryCall }'),
+    ('fresh', 'crates/engine/src/lib.rt', '{ result ≡ fresh_state }'),
     ('cases', 'crates/guarantee/specs/Worked.antt', 'abbrev pub cases : List Case'),
     ('worked', 'crates/guarantee/specs/Worked.antt', 'pub worked : AllPass cases'),
-    ('Guarantee', 'crates/guarantee/specs/Guarantee.antt', '(cs : List Call) → Holds (load lent ends tokens .loaded .table) cs'),
+    ('Guarantee', 'crates/guarantee/specs/Guarantee.antt', '(cs : List Call) → Holds (load lent ends tokens).loaded.table cs'),
     ('guarantee', 'crates/guarantee/proofs/Guarantee.antt', 'pub guarantee : Guarantee'),
-    ('loads-formed', 'crates/guarantee/proofs/Loaded.antt', 'pub loads-formed : LoadsFormed'),
-    ('Demand3', 'crates/rules/specs/Demand.antt', 'Demand3 = (t : Table) → tableFormed t ≡ true → (cs : List Call) → Holds t cs'),
+    ('loads_formed', 'crates/guarantee/proofs/Loaded.antt', 'pub loads_formed : LoadsFormed'),
+    ('Demand3', 'crates/rules/specs/Demand.antt', 'Demand3 = (t : Table) → table_formed t ≡ true → (cs : List Call) → Holds t cs'),
     ('Holds', 'crates/rules/specs/Demand.antt', 'pub record Holds (t : Table) (cs : List Call) : Type 0 where'),
     ('demand3', 'crates/rules/proofs/Demand.antt', 'pub demand3 : Demand3'),
-    ('always-safe', 'crates/rules/proofs/Safety.antt',
-     'pub always-safe : (t : Table) → tableFormed t ≡ true → (cs : List Call) → Each (Clear t) recorded nobody (story t freshState cs)'),
-    ('always-live', 'crates/rules/proofs/Safety.antt',
-     'fed recorded (story t freshState cs) nobody s ≡ recordAt (afterCalls t freshState cs) s .live'),
-    ('rests-everywhere', 'crates/rules/proofs/Resting.antt', 'pub rests-everywhere : RestsEverywhere'),
-    ('all-down', 'crates/rules/proofs/Rounds.antt', 'pub all-down : {n n′ : Now} {cs : List Call} → Rounds t (suc (t .count)) n cs n′'),
-    ('always-formed', 'crates/rules/proofs/Formed.antt', 'pub always-formed : AlwaysFormed'),
+    ('always_safe', 'crates/rules/proofs/Safety.antt',
+     'pub always_safe : (t : Table) → table_formed t ≡ true → (cs : List Call) → Each (Clear t) recorded nobody (story t fresh_state cs)'),
+    ('always_live', 'crates/rules/proofs/Safety.antt',
+     'fed recorded (story t fresh_state cs) nobody s ≡ (record_at (after_calls t fresh_state cs) s).live'),
+    ('rests_everywhere', 'crates/rules/proofs/Resting.antt', 'pub rests_everywhere : RestsEverywhere'),
+    ('all_down', 'crates/rules/proofs/Rounds.antt', "pub all_down : {n n' : Now} {cs : List Call} → Rounds t (suc t.count) n cs n'"),
+    ('always_formed', 'crates/rules/proofs/Formed.antt', 'pub always_formed : AlwaysFormed'),
     ('RefusalsPoint', 'crates/guarantee/specs/Refusals.antt',
-     '→ load lent ends tokens .loaded .answer ≡ Refused k s l c → Told (textAt lent ends s) k l c'),
-    ('refusals-point', 'crates/guarantee/proofs/Pointing.antt', 'pub refusals-point : RefusalsPoint'),
+     '→ (load lent ends tokens).loaded.answer ≡ Refused k s l c → Told (text_at lent ends s) k l c'),
+    ('refusals_point', 'crates/guarantee/proofs/Pointing.antt', 'pub refusals_point : RefusalsPoint'),
     ('LineAndColumnTell', 'crates/load_text/specs/Offsets.antt',
-     'LineAndColumnTell = (text : List ℕ) (at : ℕ) → Stands text at (lineNumber text at) (columnNumber text at)'),
-    ('line-and-column-tell', 'crates/load_text/proofs/Offsets.antt', 'pub line-and-column-tell : LineAndColumnTell'),
-    ('refused_in', 'crates/load_lent/src/lib.rt', 'r ≡ refusedIn (now (text .entry)) j f'),
-    ('column_number', 'crates/load_text/src/lib.rt', 'r ≡ columnNumber (now (s .entry)) at'),
-    ('pair-loads', 'crates/loader/specs/Examples.antt', 'pub pair-loads : loadOf pair 30 ≡ pairLoaded'),
-    ('readings-hold', 'crates/rules/specs/Readings.antt', 'pub readings-hold : AllGiven readings'),
+     'LineAndColumnTell = (text : List ℕ) (at : ℕ) → Stands text at (line_number text at) (column_number text at)'),
+    ('line_and_column_tell', 'crates/load_text/proofs/Offsets.antt', 'pub line_and_column_tell : LineAndColumnTell'),
+    ('refused_in', 'crates/load_lent/src/lib.rt', '{ result ≡ refused_in text.now j f }'),
+    ('column_number', 'crates/load_text/src/lib.rt', '{ result ≡ column_number s.now at }'),
+    ('pair_loads', 'crates/loader/specs/Examples.antt', 'pub pair_loads : load_of pair 30 ≡ pair_loaded'),
+    ('readings_hold', 'crates/rules/specs/Readings.antt', 'pub readings_hold : AllGiven readings'),
 ]
 
 # Where the statements stand that the auditor's page prints.
@@ -83,15 +83,15 @@ KINDS = (functions.TRUSTED, '-- Of the code: ')
 FIRST_PAGE_END, FIRST_PAGE_LINES = '\n---\n', 50
 FIRST_PAGE = ['`depends-on: reader`', '`Guarantee`', '`crates/guarantee/specs/Guarantee.antt`', '`guarantee`',
               '`crates/guarantee/proofs/Guarantee.antt`', 'A live process is what the host counts', HOST, INDEX, '`scripts/check_docs`',
-              '`rt check guarantee`', '`scripts/test`', '`scripts/reproduce`', '`scripts/sums`', marked.mark(sums.SCRIPT).strip()]
+              '`rt ci guarantee`', '`scripts/test`', '`scripts/reproduce`', '`scripts/sums`', marked.mark(sums.SCRIPT).strip()]
 
 # The words of the demands and the requests whose definitions must stand in the index, under this heading.
 WORDS_HEADING = '## What the words mean'
-WORDS = ['Call', 'afterCalls', 'freshState', 'accepted', 'Moment', 'Mark', 'story', 'ActsOn', 'recorded', 'fed', 'Path', 'hardLinks', 'Clear',
-         'Each', 'Rests', 'eventless', 'actionsIn', 'deadlineKill', 'sent', 'ToQuiet', 'Round', 'Rounds', 'WoundDown', 'NoZeroTimeout', 'fits',
-         'leaves', 'hands', 'chosen', 'nextAction', 'formed', 'gives', 'check', 'refusedWith', 'positioned', 'namesFrom', 'sizesFrom',
-         'descriptionsFrom', 'textRead', 'servicesFrom', 'lowestCyclic', 'stored', 'settingsOf', 'refusalNumber', 'hasByte', 'columnOfFault',
-         'refusedIn', 'columnNumber', 'Stands', 'Decides', 'Points', 'Told']
+WORDS = ['Call', 'after_calls', 'fresh_state', 'accepted', 'Moment', 'Mark', 'story', 'ActsOn', 'recorded', 'fed', 'Path', 'hard_links', 'Clear',
+         'Each', 'Rests', 'eventless', 'actions_in', 'deadline_kill', 'sent', 'ToQuiet', 'Round', 'Rounds', 'WoundDown', 'NoZeroTimeout', 'fits',
+         'leaves', 'hands', 'chosen', 'next_action', 'formed', 'gives', 'check', 'refused_with', 'positioned', 'names_from', 'sizes_from',
+         'descriptions_from', 'text_read', 'services_from', 'lowest_cyclic', 'stored', 'settings_of', 'refusal_number', 'has_byte', 'column_of_fault',
+         'refused_in', 'column_number', 'Stands', 'Decides', 'Points', 'Told']
 
 # The wrong programs that paper 01 names. Any other edit may go together with its row; these may not, nor may their rows on the auditor's page.
 SHUT_OUT = ['loader/refuses_all', 'loader/one_fixed_table', 'engine/always_quiet', 'engine_calls/ignores_start', 'engine_calls/ignores_stop_all',
@@ -102,17 +102,21 @@ SHUT_OUT = ['loader/refuses_all', 'loader/one_fixed_table', 'engine/always_quiet
 
 # The wrong programs that stand for a request of paper 02, likewise.
 REQUESTED = {'W-201': ['load_text/columns_from_zero', 'load_text/column_counted_through_newlines', 'load_lent/column_of_15_of_the_value',
-                       'load_lent/line_without_column', 'load_reader/offsets_from_the_line', 'scenario_replies/line_written_for_the_column']}
+                       'load_lent/line_without_column', 'load_reader/offsets_from_the_line', 'scenario_replies/line_told_for_the_column']}
 
 # The page of the stored cases, and how a refused load is written.
 CASES = 'examples/README.md'
 REFUSED = r'refused \d+ service \d+ line \d+ column \d+'
 
+# The stored cases on which `rt ci` runs the programs too, with what each part is called in the crate. rt takes no link, so each stands twice.
+OF_CRATES = {'examples/simulate/march-incident': 'crates/simulate', 'examples/check_services/pair': 'crates/check_services'}
+CALLED = {'input': 'stdin', 'output': 'stdout', 'files': 'data'}
+
 # What README.md names of each demand, so that a reader needs no other page to find it.
-ON_README = ['refusal-leaves-all', 'refused-load-leaves-all', 'load', 'outcome', 'Guarantee', 'guarantee']
+ON_README = ['refusal_leaves_all', 'refused_load_leaves_all', 'load', 'outcome', 'Guarantee', 'guarantee']
 
 # Quoted words of a page that are nobody's declaration: programs, libraries and words of the toolchain's verdict, signs of Rattle's own.
-FOREIGN = {'rt', 'cargo', 'python3', 'valgrind', 'libc', 'os', 'io', 'check', 'requires', 'ensures', 'specs', 'proofs', 'memcpy'}
+FOREIGN = {'rt', 'cargo', 'python3', 'valgrind', 'std', 'check', 'requires', 'ensures', 'specs', 'proofs', 'memcpy'}
 
 # The crates that a host names; they hand on what they are made of.
 HANDED_ON_BY = ('engine', 'loader')
@@ -411,7 +415,7 @@ class Check:
 
     def cases(self):
         """Each answer on the page of the stored cases is stored; every refusal by check_services is on it, and every number of a load is
-        among them."""
+        among them. The cases on which `rt ci` runs the programs are those of the crates."""
         shown = set()
         for row in rows(self.whole[CASES]):
             named = quoted(row)
@@ -432,6 +436,10 @@ class Check:
             for answer in self.tree.text(output).split('\n'):
                 if answer.startswith('refused ') and (output, answer) not in shown:
                     self.fault(CASES, f'no row has the answer of {output}: {answer}')
+        for case, crate in OF_CRATES.items():
+            for part, called in CALLED.items():
+                if self.tree.held(f'{case}/{part}') != self.tree.held(f'{crate}/{called}'):
+                    self.fault(f'{case}/{part}', f'it is not what {crate}/{called} has')
 
     def decisions(self):
         """Every decision has a number, and they go up by one through the whole page."""

@@ -1,5 +1,5 @@
 """Shows that `scripts/check_docs` can fail: damages a copy of the pages and sources in many small ways, one at a time, and sees each refused.
-Shows the same of `scripts/sums` and `scripts/reproduce`.
+Shows the same of `scripts/sums`, `scripts/reproduce` and `scripts/test`.
 
 It exits with 1 where a damage goes unseen, or no longer applies. It takes some seconds.
 """
@@ -20,6 +20,7 @@ AUDIT, HOST, README, DESIGN = 'docs/AUDIT.md', 'docs/HOST.md', 'README.md', 'doc
 RULES, GUARANTEE = 'crates/rules', 'crates/guarantee'
 MANUAL, PROPERTIES, WORDS = 'docs/DESCRIPTIONS.md', 'crates/load_word/specs/Properties.antt', 'crates/load_word/specs/Words.antt'
 LIMITS = 'crates/service/specs/Limits.antt'
+WORKED = 'pub worked : AllPass cases'
 
 
 def swap(old, new):
@@ -53,6 +54,22 @@ def without_line(words):
     return change
 
 
+def above(words, line):
+    """A line put in above the first that has some words."""
+    def change(text):
+        lines = text.split('\n')
+        lines.insert(next(at for at, here in enumerate(lines) if words in here), line)
+        return '\n'.join(lines)
+    return change
+
+
+def last_change_lost(text):
+    """The edit with other words in the last line of what it replaces."""
+    before, old, after = text.rpartition('\nold: ')
+    assert old, 'no line says what is replaced'
+    return f'{before}{old}no such words {after}'
+
+
 def without_section(heading):
     def change(text):
         start = text.index(heading)
@@ -73,6 +90,14 @@ def with_row_of(path, words):
     return change
 
 
+def read(place):
+    """The text of a file, or none where there is no such file."""
+    if not os.path.exists(place):
+        return None
+    with open(place, encoding='utf-8') as file:
+        return file.read()
+
+
 def changed_sum(text):
     """The page with a sum that is a digit short."""
     before, held, after = marked.split(text, sums.SCRIPT)
@@ -87,20 +112,20 @@ def gone(text):
 # What is done to which files, and a word that the check must then say.
 DAMAGES = [
     ('a theorem is commented out', 'guarantee', {f'{GUARANTEE}/proofs/Guarantee.antt': comment_out('pub guarantee : Guarantee')}),
-    ('another is', 'refused-load-leaves-all',
-     {f'{GUARANTEE}/proofs/Refusals.antt': comment_out('pub refused-load-leaves-all : RefusedLoadLeavesAll')}),
-    ('the worked examples are', 'worked', {f'{GUARANTEE}/specs/Worked.antt': comment_out('pub worked : AllPass cases')}),
+    ('another is', 'refused_load_leaves_all',
+     {f'{GUARANTEE}/proofs/Refusals.antt': comment_out('pub refused_load_leaves_all : RefusedLoadLeavesAll')}),
+    ('the worked examples are', 'worked', {f'{GUARANTEE}/specs/Worked.antt': comment_out(WORKED)}),
     ('a theorem says less', 'demand3', {f'{RULES}/proofs/Demand.antt': swap('pub demand3 : Demand3', 'pub demand3 : Unit')}),
     ('the statement says less', 'Guarantee', {f'{GUARANTEE}/specs/Guarantee.antt': swap('→ Holds (load', '→ Held (load')}),
     ('the law of lines and columns says less', 'LineAndColumnTell',
-     {'crates/load_text/specs/Offsets.antt': swap('(lineNumber text at) (columnNumber text at)', '(lineNumber text at) 1')}),
+     {'crates/load_text/specs/Offsets.antt': swap('(line_number text at) (column_number text at)', '(line_number text at) 1')}),
     ('what a refused load points at says less', 'pub absent', {f'{GUARANTEE}/specs/Refusals.antt': without_line('pub absent : number')}),
-    ('its proof is commented out', 'refusals-point', {f'{GUARANTEE}/proofs/Pointing.antt': comment_out('pub refusals-point : RefusalsPoint')}),
+    ('its proof is commented out', 'refusals_point', {f'{GUARANTEE}/proofs/Pointing.antt': comment_out('pub refusals_point : RefusalsPoint')}),
     ('a part of it is gone', 'pub safe', {f'{RULES}/specs/Demand.antt': without_line('pub safe : Each (Clear t) recorded nobody')}),
     ('another part is', 'pub live', {f'{RULES}/specs/Demand.antt': without_line('pub live : (s : ℕ)')}),
-    ('the list of what it rests on leaves one out', 'linksOf', {f'{RULES}/specs/Demand.antt': swap('linksOf, defaultsWith', 'defaultsWith')}),
+    ('the list of what it rests on leaves one out', 'links_of', {f'{RULES}/specs/Demand.antt': swap('links_of, defaults_with', 'defaults_with')}),
     ('the list has one too many', 'earliest', {f'{RULES}/specs/Calls.antt': swap('(told (earliest t x))', '(told NoDeadline)')}),
-    ('the index leaves out one that the load rests on', 'needsCommand', {INDEX: swap(', `needsCommand`', '')}),
+    ('the index leaves out one that the load rests on', 'needs_command', {INDEX: swap(', `needs_command`', '')}),
     ('a trusted file is said to be one of the code', 'Lines.antt, which is not trusted',
      {'crates/load_text/specs/Lines.antt': swap('-- Trusted: ', '-- Of the code: ')}),
     ('what the load comes down to is not trusted', 'and it is not trusted',
@@ -108,17 +133,18 @@ DAMAGES = [
     ('one of the code is said to be trusted', 'Rows.antt, which is trusted',
      {'crates/links/specs/Rows.antt': swap('-- Of the code: ', '-- Trusted: ')}),
     ('a file of definitions says neither', 'says neither', {'crates/links/specs/Rows.antt': swap('-- Of the code: ', '-- ')}),
-    ('a type is no longer handed on', 'Stepped is handed on', {'crates/engine/src/lib.rt': without_line('pub use service::Stepped;')}),
-    ('a contract cites another definition', 'stop_all', {'crates/engine_calls/src/events.rt': swap('outcome t x stopAll', 'outcome t x nextCall')}),
-    ('a statement is renamed', 'always-safe', {f'{RULES}/proofs/Safety.antt': rename('always-safe', 'mostly-safe')}),
-    ('a statement of cases is renamed', 'readings-hold', {f'{RULES}/specs/Readings.antt': rename('readings-hold', 'readings-pass')}),
+    ('a type is no longer handed on', 'Stepped is handed on', {'crates/engine/src/lib.rt': swap('Stepped, ', '')}),
+    ('a contract cites another definition', 'stop_all', {'crates/engine_calls/src/events.rt': swap('outcome t x stop_all }', 'outcome t x nextCall }')}),
+    ('a statement is renamed', 'always_safe', {f'{RULES}/proofs/Safety.antt': rename('always_safe', 'mostly_safe')}),
+    ('a statement of cases is renamed', 'readings_hold',
+     {f'{RULES}/specs/Readings.antt': rename('readings_hold', 'readings_pass')}),
     ('the table of cases is renamed', 'cases', {f'{GUARANTEE}/specs/Worked.antt': rename('cases', 'samples')}),
     ('a definition is renamed', 'fits', {f'{RULES}/specs/Rules.antt': rename('fits', 'suits')}),
     ('a word of the demand is renamed', 'sent', {f'{RULES}/specs/Demand.antt': rename('sent', 'mailed')}),
     ('a row has a wrong file', 'ToQuiet',
      {INDEX: swap('| `ToQuiet` | `crates/rules/specs/Demand.antt` |', '| `ToQuiet` | `crates/rules/specs/Calls.antt` |')}),
-    ('a name in the text is misspelt', 'always-saef', {AUDIT: swap('list, `always-safe` says', 'list, `always-saef` says')}),
-    ('a row of the statements is gone', 'always-formed', {AUDIT: without_line('| `always-formed` |')}),
+    ('a name in the text is misspelt', 'always_saef', {AUDIT: swap('list, `always_safe` says', 'list, `always_saef` says')}),
+    ('a row of the statements is gone', 'always_formed', {AUDIT: without_line('| `always_formed` |')}),
     ('the words section is gone', 'WoundDown', {INDEX: without_section('## What the words mean')}),
     ('a word of a demand is in no row', 'no row says what Clear', {INDEX: swap('| `Each`, `Clear`, `ClearBy` |', '| `Each` |')}),
     ('a file of definitions is not in the index', 'Tokens.antt', {INDEX: without_line('`crates/loader/specs/Tokens.antt`')}),
@@ -133,9 +159,12 @@ DAMAGES = [
      {'crates/load_text/must-fail/columns_from_zero.edit': gone, AUDIT: without_line('columns_from_zero'),
       INDEX: both(swap(', `columns_from_zero`', ''), without_line('columns_from_zero'))}),
     ('an edit no longer applies', 'always_quiet', {'crates/engine/must-fail/always_quiet.edit': swap('old: answer', 'old: the answer')}),
+    ('the last change of an edit no longer applies', 'shutdown_in_one_action', {'crates/engine/must-fail/shutdown_in_one_action.edit': last_change_lost}),
     ('a public function has a precondition', 'query is public',
-     {'crates/engine_calls/src/times.rt': swap('    ensures { λ a.', '    requires { ⌜ t .count ≤ 32 ⌝ }\n    ensures { λ a.')}),
-    ('a public function has no contract', 'is_down is public', {'crates/engine_record_tests/src/lib.rt': without_line('b ≡ isDown p')}),
+     {'crates/engine_calls/src/times.rt': above('query_outcome result', '    requires { t.count ≤ 32 }')}),
+    ('a public function has a precondition with a name', 'query is public',
+     {'crates/engine_calls/src/times.rt': above('query_outcome result', '    requires few { t.count ≤ 32 }')}),
+    ('a public function has no contract', 'is_down is public', {'crates/engine_record_tests/src/lib.rt': without_line('result ≡ is_down p')}),
     ('so has one in a further file', 'extra is public', {'crates/load_text/src/further.rt': lambda text: 'pub fn extra() -> bool {\n    true\n}\n'}),
     ('a function that the host calls is renamed', 'run_to_quiet', {'crates/engine/src/lib.rt': rename('run_to_quiet', 'run_to_rest')}),
     ('its parameters change', 'engine::end', {'crates/engine_calls/src/events.rt': swap('s: usize, good: bool)', 's: usize, good: u8)')}),
@@ -144,6 +173,8 @@ DAMAGES = [
     ('a stored case answers another column', 'value-missing', {'examples/check_services/value-missing/output': swap('column 9', 'column 6')}),
     ('a refused load is not on the page of the cases', 'hash-far-along', {'examples/README.md': without_line('check_services/hash-far-along')}),
     ('no stored case is refused with a number', 'refused with 9', {'examples/README.md': without_line('check_services/last-backslash')}),
+    ('a stored case is not the one of its crate', 'simulate/stdin', {'examples/simulate/march-incident/input': swap('\n', '\n% a line more\n')}),
+    ('a file of a stored case is not the one of its crate', 'check_services/data', {'crates/check_services/data/reader': swap('\n', '\n# a line more\n')}),
     ('a page is gone', 'BENCHMARKS.md', {'docs/BENCHMARKS.md': gone}),
     ('a page is not in the README', 'SCENARIO.md', {README: without_line('docs/SCENARIO.md')}),
     ('a demand is not in the README', 'Guarantee', {README: without_line('`Guarantee`')}),
@@ -189,7 +220,7 @@ DAMAGES = [
     ('it has a flag too many', 'the values of smooth-recovery', {MANUAL: swap('| `smooth-recovery` | `no`', '| `smooth-recovery` | `yes`, `no`')}),
     ('it takes a time for a count', 'the values of restart-delay', {MANUAL: swap('| `restart-delay` | [seconds]', '| `restart-delay` | [a count]')}),
     ('it has a wrong default', 'the default of stop-timeout', {MANUAL: swap('(#times-and-counts) | `10` | process', '(#times-and-counts) | `60` | process')}),
-    ('a default changes', 'the default of restart-delay', {LIMITS: swap('defaultDelay = 2000', 'defaultDelay = 2500')}),
+    ('a default changes', 'the default of restart-delay', {LIMITS: swap('default_delay = 2000', 'default_delay = 2500')}),
     ('the default signal changes', 'the default of term-signal', {'crates/service/specs/Settings.antt': swap('signal = Term;', 'signal = Hup;')}),
 ] + [
     (f'the manual has a wrong limit: {new}', 'the limit of ', {MANUAL: swap(old, new)}) for old, new in [
@@ -198,7 +229,7 @@ DAMAGES = [
         ('| a time | 86,400', '| a time | 84,600'), ('6 digits before the point', '5 digits before the point'), ('and 4 after it', 'and 3 after it'),
         ('0.1 ms; 10,000', '1 ms; 1,000'), ('| a count | 65,535; 5', '| a count | 65,536; 5'), ('65,535; 5 digits', '65,535; 6 digits')]
 ] + [
-    ('a limit changes', 'the limit of services', {LIMITS: swap('maxServices = 32', 'maxServices = 64')}),
+    ('a limit changes', 'the limit of services', {LIMITS: swap('max_services = 32', 'max_services = 64')}),
     ('a number has no section', 'leaves out 16', {MANUAL: without_line('### Number 16')}),
     ('a section has no number', 'has 26', {MANUAL: swap('### Number 25', '### Number 26')}),
     ('a load gives a new number', 'leaves out 28', {'crates/load_description/specs/Texts.antt': swap('(Bad (fault 14 0))', '(Bad (fault 28 0))')}),
@@ -220,22 +251,14 @@ DAMAGES = [
     ('a link of the manual leads nowhere', '#time-and-counts', {MANUAL: swap('(#times-and-counts)', '(#time-and-counts)')}),
     ('a field of the layout is another', 'the layout has', {HOST: swap('| 2 | `delay` |', '| 2 | `interval` |')}),
     ('two numbers of a record change places', 'the layout has',
-     {'crates/plain_encoding/specs/Numbers.antt': swap('flagNumber (r .aside)\n    ∷ flagNumber (r .live)', 'flagNumber (r .live)\n    ∷ flagNumber (r .aside)')}),
-    ('a phase gets another number', 'phaseNumber', {'crates/service/specs/Numbers.antt': swap('phaseNumber Up = 3', 'phaseNumber Up = 5')}),
-    ('a place has more numbers', '17 for each', {'crates/plain_encoding/specs/Numbers.antt': swap('perPlace = 16', 'perPlace = 17')}),
+     {'crates/plain_encoding/specs/Numbers.antt': swap('flag_number r.aside\n    ∷ flag_number r.live', 'flag_number r.live\n    ∷ flag_number r.aside')}),
+    ('a phase gets another number', 'phase_number', {'crates/service/specs/Numbers.antt': swap('phase_number Up = 3', 'phase_number Up = 5')}),
+    ('a place has more numbers', '17 for each', {'crates/plain_encoding/specs/Numbers.antt': swap('per_place = 16', 'per_place = 17')}),
     ('a part of an answer in numbers is renamed', 'Asked has', {'crates/plain/src/forms.rt': swap('pub timed: bool', 'pub dated: bool')}),
     ('a signal of a run has another number', 'signals of a run', {HOST: swap('5 INT, 6 TERM', '5 INT, 5 TERM')}),
-    ('a default of the pair changes', 'the pair has no line', {'crates/service/specs/Limits.antt': swap('defaultDelay = 2000', 'defaultDelay = 2500')}),
-    ('a list of the layout is renamed', 'cannot be held', {'crates/service/specs/Numbers.antt': rename('causeNumber', 'reasonNumber')}),
+    ('a default of the pair changes', 'the pair has no line', {'crates/service/specs/Limits.antt': swap('default_delay = 2000', 'default_delay = 2500')}),
+    ('a list of the layout is renamed', 'cannot be held', {'crates/service/specs/Numbers.antt': rename('cause_number', 'reasonNumber')}),
 ]
-
-
-def read(place):
-    """The text of a file, or none where there is no such file."""
-    if not os.path.exists(place):
-        return None
-    with open(place, encoding='utf-8') as file:
-        return file.read()
 
 
 def put(place, text):
@@ -271,9 +294,10 @@ def damaged(root):
 def main():
     with tempfile.TemporaryDirectory() as work:
         root = os.path.join(work, 'copy')
-        shutil.copytree(ROOT, root, ignore=shutil.ignore_patterns('target', '.git', '__pycache__'))
-        unseen = damaged(root) + unlike.compared() + unlike.reproduced(root)
-    print(f'{len(DAMAGES) + len(unlike.COMPARED) + len(unlike.BUILDS)} damages and trials, {unseen} unseen')
+        shutil.copytree(ROOT, root, ignore=shutil.ignore_patterns('target', 'out', '.git', '__pycache__'))
+        unseen = damaged(root) + unlike.compared() + unlike.judged(root) + unlike.reproduced(root)
+    trials = [DAMAGES, unlike.COMPARED, unlike.JUDGED, unlike.BUILDS]
+    print(f'{sum(map(len, trials))} damages and trials, {unseen} unseen')
     sys.exit(1 if unseen else 0)
 
 

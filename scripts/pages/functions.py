@@ -10,7 +10,7 @@ import re
 import sys
 
 import marked
-from tree import ROOT, Tree
+from tree import ROOT, Tree, clauses
 
 INDEX, SCRIPT = 'docs/INDEX.md', 'scripts/functions'
 
@@ -26,15 +26,17 @@ DEMANDED = ['Holds', 'Demand3', 'RestsEverywhere', 'AlwaysFormed']
 # What a reader may want to believe, and the definitions that it says: from these on down a file is needed for it. No names: all of the file.
 NEEDED_FOR = {
     'load': {LOADING: ['load']},
-    'calls': {'crates/rules/specs/Calls.antt': ['outcome', 'changedOutcome', 'steppedOutcome', 'ranOutcome', 'queryOutcome']},
+    'calls': {'crates/rules/specs/Calls.antt': ['outcome', 'changed_outcome', 'stepped_outcome', 'ran_outcome', 'query_outcome']},
     'demand 3': {DEMAND: DEMANDED, 'crates/guarantee/specs/Guarantee.antt': []},
     'W-201': {'crates/guarantee/specs/Refusals.antt': [], 'crates/load_text/specs/Offsets.antt': []},
     'examples': {'crates/guarantee/specs/Worked.antt': []},
     'plain numbers': {'crates/plain/specs/Calls.antt': [], 'crates/plain/specs/Loads.antt': []},
 }
 
-# How a file of definitions brings in a type of the sources: its crate, the module that declares it where that is not the root, its name.
-DECLARED = re.compile(r'(?m)^use Rattle·(\w+?)(?:·specs\.specs|\.specs)\.declared\.((?:[a-z]\w*\.)?)([A-Z]\w*)\.')
+# How a source brings in definitions: their crate and their names. How a file of definitions brings in a type of the sources: its crate, the module
+# that declares it where that is not the root, its name.
+BROUGHT_IN = re.compile(r'ghost use Rattle\.(\w+)\.specs\.[^;{]*\{([^}]*)\}')
+DECLARED = re.compile(r'(?m)^use Rattle\.(\w+)\.specs\.declared\.((?:[a-z]\w*\.)?)([A-Z]\w*)\.')
 
 
 def quoted(names):
@@ -84,13 +86,14 @@ def types(tree):
     return ['| file | types |', '|---|---|'] + [f'| `{source}` | {quoted(sorted(found[source]))} |' for source in sorted(found)]
 
 
-def cited(text, part):
-    """The definitions of specs/ that the contract in this part names."""
+def cited(tree, text, part):
+    """The definitions of specs/ that the contract in this part names; those of the toolchain's libraries are left out."""
     names = []
-    for group in re.findall(r'ghost use Rattle·[^;]*?specs\.[^;{]*\{([^}]*)\}', text):
-        names += [item.split(' as ')[-1].strip() for item in group.split(',')]
-    clause = ' '.join(re.findall(r'ensures[^{]*\{(.*?)\}\s*\n', part, re.S))
-    return [n for n in dict.fromkeys(names) if re.search(r'(?<![\w·\-])' + re.escape(n) + r'(?![\w·\-])', clause)]
+    for crate, group in BROUGHT_IN.findall(text):
+        if crate in tree.crates:
+            names += [item.split(' as ')[-1].strip() for item in group.split(',')]
+    said = ' '.join(clauses(part, 'ensures'))
+    return [n for n in dict.fromkeys(names) if re.search(r"(?<![\w'])" + re.escape(n) + r"(?![\w'])", said)]
 
 
 def homes(tree, crate):
@@ -99,8 +102,6 @@ def homes(tree, crate):
     for name, file, old in tree.edits(crate):
         path = f'crates/{crate}/{file}'
         at = tree.text(path).find(old)
-        if at < 0:
-            raise SystemExit(f'crates/{crate}/must-fail/{name}.edit: what it replaces is not in {file}')
         home = None
         if tree.is_library(crate) and file.startswith('src/'):
             home = next((start for _, _, start, end in tree.functions(path) if start <= at < end), None)
@@ -131,7 +132,7 @@ def functions_of(tree, crate, path, within):
         inside = within.get((path, start), [])
         if public or inside:
             shown = f'`{name}`' if public else f'`{name}` (inner)'
-            rows.append(f'| `{crate}` | {shown} | {quoted(cited(text, text[start:end]))} | {quoted(inside)} |')
+            rows.append(f'| `{crate}` | {shown} | {quoted(cited(tree, text, text[start:end]))} | {quoted(inside)} |')
     return rows
 
 
@@ -184,6 +185,9 @@ others change code.
 
 def made(tree):
     """All that stands between the marks."""
+    faults = [f'{path}: {why}' for crate in tree.crates for path, why in tree.unapplied(crate)]
+    if faults:
+        raise SystemExit('\n'.join(faults))
     public, elsewhere = functions(tree)
     tables = {'definitions': definitions(tree), 'types': types(tree), 'public': public, 'elsewhere': elsewhere, 'wrong': wrong_programs(tree)}
     return PAGE.format(heading=HEADING, **{name: '\n'.join(rows) for name, rows in tables.items()})

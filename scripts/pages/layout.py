@@ -16,7 +16,7 @@ FORMS = 'crates/plain/src/forms.rt'
 PAIR = 'crates/loader/specs/Examples.antt'
 
 # The lists of words: the row and the cell of the layout that has each, from 0.
-LISTS = {'kindNumber': (0, 2), 'phaseNumber': (0, 4), 'causeNumber': (4, 4), 'signalNumber': (7, 2)}
+LISTS = {'kind_number': (0, 2), 'phase_number': (0, 4), 'cause_number': (4, 4), 'signal_number': (7, 2)}
 
 # The numbers of a run's actions: a signal's come after those of three others.
 FIRST_SIGNAL = 3
@@ -46,7 +46,7 @@ class Layout:
     def word(name, variant):
         if variant.startswith('No'):
             return 'none'
-        return variant.upper() if name == 'signalNumber' else variant.lower()
+        return variant.upper() if name == 'signal_number' else variant.lower()
 
     def number(self, path, name):
         return int(re.search(r'\d+', self.body(path, name)).group())
@@ -64,9 +64,9 @@ class Layout:
 
     def settings(self, kind, restart, hard):
         """The sixteen numbers of a service that has the defaults for all else."""
-        term = next(number for number, word in self.words('signalNumber') if word == 'TERM')
+        term = next(number for number, word in self.words('signal_number') if word == 'TERM')
         given = {**Facts(self.tree.root).numbers, 'kind': kind, 'restart': restart, 'signal': term, 'hard': hard}
-        return ' '.join(str(given.get(field, 0)) for field in self.fields(VALUES, 'settingsNumbers'))
+        return ' '.join(str(given.get(field, 0)) for field in self.fields(VALUES, 'settings_numbers'))
 
     def ends(self):
         """The positions of the pair, from its names and texts."""
@@ -85,7 +85,7 @@ def quoted(cell):
 
 def of_places(layout, page):
     """The rows of the layout."""
-    table, state = layout.fields(VALUES, 'settingsNumbers'), layout.fields(ENCODING, 'recordNumbers')
+    table, state = layout.fields(VALUES, 'settings_numbers'), layout.fields(ENCODING, 'record_numbers')
     rows = {cells(line)[0]: cells(line) for line in page.split('\n') if re.match(r'\| \d+ \|', line) and len(cells(line)) == 5}
     for at, both in enumerate(zip(table, state)):
         if both == (None, None):
@@ -104,7 +104,7 @@ def of_places(layout, page):
 
 def of_sizes(layout, page):
     """What is said of sizes, and the words that say it."""
-    front, each, places = layout.number(ENCODING, 'inFront'), layout.number(ENCODING, 'perPlace'), layout.number(LIMITS, 'maxServices')
+    front, each, places = layout.number(ENCODING, 'in_front'), layout.number(ENCODING, 'per_place'), layout.number(LIMITS, 'max_services')
     numbers = front + each * places
     for words in (f'{numbers} numbers of 8 bytes, {8 * numbers:,} bytes: {front} in front, and {each} for each of {places} places',
                   f'begin at {front} + {each} s', f'A fresh state is {numbers} times 0', f'A state is {8 * numbers:,} bytes',
@@ -123,16 +123,16 @@ def of_types(layout, page):
 
 def of_runs(layout, page):
     """The numbers of the signals that a run writes."""
-    words = ', '.join(f'{FIRST_SIGNAL + number} {word}' for number, word in layout.words('signalNumber') if number)
+    words = ', '.join(f'{FIRST_SIGNAL + number} {word}' for number, word in layout.words('signal_number') if number)
     if words not in ' '.join(page.split()):
         yield f'it does not have the numbers of the signals of a run: {words}'
-    if f'= {FIRST_SIGNAL} + signalNumber g' not in layout.tree.definitions(VALUES)['actionNumber']:
+    if f'= {FIRST_SIGNAL} + signal_number g' not in layout.tree.definitions(VALUES)['action_number']:
         yield f'the signals of a run no longer begin at {FIRST_SIGNAL}'
 
 
 def of_the_pair(layout, page):
     """The pair as numbers."""
-    kinds = {word: number for number, word in layout.words('kindNumber')}
+    kinds = {word: number for number, word in layout.words('kind_number')}
     expected = ['ends     ' + ' '.join(map(str, layout.ends())), layout.settings(kinds['process'], 1, 0), layout.settings(kinds['process'], 1, 1),
                 layout.settings(kinds['internal'], 0, 0) + ', thirty times']
     for line in expected:

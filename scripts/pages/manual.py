@@ -55,7 +55,7 @@ def makers(tree, file):
     """What makes a refusal in a file, by the name that it has there: the place of the number among its arguments."""
     found = {here: MAKERS[there] for here, there in tree.brought_in(file).items() if there in MAKERS}
     found.update({name: place for (home, name), place in MAKERS.items() if home == file})
-    for names in re.findall(r'declared\.Answer\.the-variants\.\{([^}]*)\}', tree.bare(file)):
+    for names in re.findall(r'declared\.Answer\.TheVariants\.\{([^}]*)\}', tree.bare(file)):
         for there, here in re.findall(r'(\w+)(?: as (\w+))?', names):
             if there == 'Refused':
                 found[here or there] = 0
@@ -84,7 +84,7 @@ def numbers_of(tree):
         for number in given_in(tree, file, name):
             if number and number.isdigit():
                 numbers.add(int(number))
-            elif name not in HAND_ON and not re.fullmatch(r'\(\w+ \.number\)', number or ''):
+            elif name not in HAND_ON and not re.fullmatch(r'\w+\.number', number or ''):
                 hidden.append(f'{file}: {name} makes a refusal, and its number does not show: {number}')
     return numbers, hidden
 
@@ -164,7 +164,7 @@ class Manual:
         self.listed('the limits', list(said), list(meant))
         for what in said:
             self.same(f'the limit of {what}', said[what], meant.get(what))
-        bad = [int(number) for number in self.facts.found(BYTES, r'isBad b = ltb b (\d+) \|\| \(ltb (\d+) b && ltb b (\d+)\) \|\| eqb b (\d+)')[0]]
+        bad = [int(number) for number in self.facts.found(BYTES, r'is_bad b = ltb b (\d+) \|\| \(ltb (\d+) b && ltb b (\d+)\) \|\| eqb b (\d+)')[0]]
         first = f'0 to {bad[0] - 1}, {bad[1] + 1} to {bad[2] - 1} or {bad[3]}'
         if first not in self.page.numbers().get(6, ''):
             self.fault(f'Number 6: the bad bytes are {first}')
@@ -178,8 +178,8 @@ class Manual:
         self.listed('the numbers of a load', list(sections), sorted(numbers))
         linked = re.findall(r'\[(\d+)\]\(#number-\1\)', self.text.partition('\n## ')[0])
         self.listed('the numbers linked at the top', [int(number) for number in linked], sorted(numbers))
-        first, last = self.facts.found(REFUSALS, r'(?m)^hasByte n = leb (\d+) n && leb n (\d+)$')[0]
-        absent = self.facts.found(REFUSALS, r'pick \(eqb \(f \.number\) (\d+)\) 1 0')[0]
+        first, last = self.facts.found(REFUSALS, r'(?m)^has_byte n = leb (\d+) n && leb n (\d+)$')[0]
+        absent = self.facts.found(REFUSALS, r'pick \(eqb f\.number (\d+)\) 1 0')[0]
         pointed = [*range(int(first), int(last) + 1), int(absent)]
         for number, body in sections.items():
             if ('**Line and column:**' in body) != (number in pointed) or ('Line and column are 0' in body) == (number in pointed):

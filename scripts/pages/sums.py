@@ -82,7 +82,7 @@ def main(words):
         by, sums = builder(), sums_in(folder[0], programs(here))
         before, stretch, after = marked.split(here.text(AUDIT), SCRIPT)
     except (OSError, subprocess.CalledProcessError, ValueError) as error:
-        print(f'scripts/sums: {error}; `rt check` builds the programs', file=sys.stderr)
+        print(f'scripts/sums: {error}; `scripts/build` builds the programs', file=sys.stderr)
         return 2
     if not is_writing:
         return compare(stretch, by, sums)

@@ -13,14 +13,19 @@ ROOT = os.path.dirname(os.path.dirname(os.path.dirname(os.path.abspath(__file__)
 # The checks use what is known there of the definitions and of the manual's form. It is looked for last: there is another `check`.
 sys.path.append(os.path.join(ROOT, 'scripts', 'people'))
 
-# A name in a definition or a proof; the lines that declare one.
-NAME = r"[A-Za-z][\w\-·′″₀]*"
-WORDS = r'(?:abbrev |unfoldable )?(?:pub )?'
+# A name in a definition or a proof, and as one was written by an older Rattle: a page that still has such a name must be seen. The lines that declare
+# one: a long statement may begin on the line below its name.
+NAME = r"[A-Za-z][\w\-'′″]*"
+WORDS = r'(?:(?:abbrev|unfoldable|opaque) )*(?:pub )?'
+SAYS = r' :(?= |$)'
 TYPE = re.compile(r'(?m)^\s*' + WORDS + r'(?:data|record) (' + NAME + ')')
-SIGNATURE = re.compile(r'(?m)^\s*' + WORDS + '(' + NAME + '(?: ' + NAME + ')*) : ')
-DEFINED = re.compile(r'(?m)^' + WORDS + '(?:(?:data|record) (' + NAME + ')|(' + NAME + ') : )')
-PART = re.compile(r'(?m)^  (?:pub )?(' + NAME + '(?: ' + NAME + ')*) : ')
-IMPORTED = re.compile(r'(?m)^use Rattle·(\w+?)(?:·specs\.specs|\.specs)\.(?!declared)(\w+)\.\{([^}]*)\}')
+SIGNATURE = re.compile(r'(?m)^\s*' + WORDS + '(' + NAME + '(?: ' + NAME + ')*)' + SAYS)
+DEFINED = re.compile(r'(?m)^' + WORDS + '(?:(?:data|record) (' + NAME + ')|(' + NAME + ')' + SAYS + ')')
+PART = re.compile(r'(?m)^  (?:pub )?(' + NAME + '(?: ' + NAME + ')*)' + SAYS)
+# What a file brings in: the crate, the module of its definitions, and the names. A library of the toolchain is named in the same way.
+MODULE = re.compile(r'(?m)^use Rattle\.(\w+)\.specs\.(\w+)')
+IMPORTED = re.compile(r'(?m)^use Rattle\.(\w+)\.specs\.(?!declared)(\w+)\.\{([^}]*)\}')
+MADE = re.compile(r'crates/\w+/out(?:/|$)')
 FUNCTION = re.compile(r'(?m)^[ \t]*(pub )?(?:pub\(crate\) )?(?:extern "C" )?fn (\w+)')
 
 
@@ -49,11 +54,19 @@ def declared_in_definitions(text):
     return names
 
 
+def used_in(text, words='(?:pub )?'):
+    """What a source brings in by its name, as (what it stands in, its name); `pub ` finds what it hands on."""
+    found = []
+    for home, one, group in re.findall(r'(?m)^' + words + r'use (\w+)::(?:(\w+)|\{([^}]*)\});', text):
+        found += [(home, name.strip()) for name in (one or group).split(',') if name.strip()]
+    return found
+
+
 @functools.lru_cache(maxsize=None)
 def declared_in_source(text):
     """Functions, types, constants, variants and fields, and what is brought in by its name."""
     names = set(re.findall(r'(?m)^\s*(?:pub(?:\(crate\))? )?(?:extern "C" )?(?:fn|const|struct|enum|type) (\w+)', text))
-    names.update(re.findall(r'(?m)^(?:pub )?use \w+::(\w+);', text))
+    names.update(name for _, name in used_in(text))
     for words in types_in(text).values():
         names.update(re.findall(r'(?:^|[,{]) ?(\w+)(?=[,:({ ])', words[words.index('{') + 1:]))
     return names
@@ -62,6 +75,18 @@ def declared_in_source(text):
 def variants(words):
     """The variants of a type, or its fields, from its words in one line."""
     return re.findall(r'(\w+)(?=[,({ ]|$)', re.sub(r'\([^)]*\)|\{[^}]*\}', '', words[words.index('{') + 1:]))
+
+
+def clauses(text, kind):
+    """What stands in the braces of each clause of a kind, `requires` or `ensures`, with its name or without."""
+    found = []
+    for head in re.finditer(r'(?m)^[ \t]*' + kind + r'\b[^{\n]*\{', text):
+        end, depth = head.end(), 1
+        while depth and end < len(text):
+            depth += {'{': 1, '}': -1}.get(text[end], 0)
+            end += 1
+        found.append(text[head.end():end - 1])
+    return found
 
 
 class Tree:
@@ -79,11 +104,20 @@ class Tree:
         return os.path.exists(os.path.join(self.root, path))
 
     def glob(self, pattern):
-        return sorted(os.path.relpath(p, self.root) for p in glob.glob(os.path.join(self.root, pattern), recursive=True))
+        """The paths of a pattern, from the root; what rt builds in a crate's out/ is left out."""
+        paths = (os.path.relpath(p, self.root) for p in glob.glob(os.path.join(self.root, pattern), recursive=True))
+        return sorted(path for path in paths if not MADE.match(path))
 
     def text(self, path):
         with open(os.path.join(self.root, path), encoding='utf-8') as file:
             return file.read()
+
+    def held(self, path):
+        """What a file has, or each file of a folder by its name."""
+        folder = os.path.join(self.root, path)
+        if os.path.isdir(folder):
+            return {name: self.text(os.path.join(path, name)) for name in os.listdir(folder)}
+        return self.text(path) if self.exists(path) else None
 
     def bare(self, path):
         """The file without its comments."""
@@ -110,7 +144,7 @@ class Tree:
                 types[f'{crate}::{name}'] = words
                 inside.setdefault(name, set()).update(variants(words))
             types.update({f'{crate}::{name}': name for name in re.findall(r'(?m)^\s*pub const (\w+)', self.bare(path))})
-            handed = re.findall(r'(?m)^pub use (\w+)::(\w+);', self.bare(path))
+            handed = used_in(self.bare(path), 'pub ')
             for kept in (functions, types):
                 kept.update({f'{crate}::{name}': kept[f'{other}::{name}'] for other, name in handed if f'{other}::{name}' in kept})
         return functions, types, inside
@@ -155,6 +189,22 @@ class Tree:
             old = next(line[5:] for line in lines if line.startswith('old: '))
             yield os.path.basename(path)[:-5], file, old
 
+    def unapplied(self, crate):
+        """Each must-fail edit of a crate that `rt ci` could not apply: its path, and what is not there. What a pair of lines replaces stands once in the
+        file, as the pairs before it left that."""
+        for path in self.glob(f'crates/{crate}/must-fail/*.edit'):
+            texts, file, old = {}, None, None
+            for line in self.text(path).split('\n'):
+                if line.startswith('file: '):
+                    file = f'crates/{crate}/{line[6:].strip()}'
+                    texts.setdefault(file, self.text(file) if self.exists(file) else '')
+                elif line.startswith('old: '):
+                    old = line[5:]
+                elif line.startswith('new:'):
+                    if texts[file].count(old) != 1:
+                        yield path, f'what it replaces is in {file} {texts[file].count(old)} times: {old}'
+                    texts[file] = texts[file].replace(old, line[4:].removeprefix(' '))
+
     def rests_on(self, path):
         """A file of definitions, all that it imports, and all that those import."""
         met, left = set(), [path]
@@ -165,8 +215,9 @@ class Tree:
             met.add(at)
             if not at.endswith('.antt'):
                 continue
-            for crate, module in re.findall(r'(?m)^use Rattle·(\w+?)(?:·specs\.specs|\.specs)\.(\w+)', self.bare(at)):
-                left.append(f'crates/{crate}/src/lib.rt' if module == 'declared' else f'crates/{crate}/specs/{module}.antt')
+            for crate, module in MODULE.findall(self.bare(at)):
+                if crate in self.crates:
+                    left.append(f'crates/{crate}/src/lib.rt' if module == 'declared' else f'crates/{crate}/specs/{module}.antt')
         return sorted(met)
 
     def definitions(self, path):
@@ -183,7 +234,7 @@ class Tree:
         """What each name that a file of definitions imports is: the file that declares it, and its name there."""
         found = {}
         for crate, module, names in IMPORTED.findall(self.bare(path)):
-            for name in names.split(','):
+            for name in names.split(',') if crate in self.crates else []:
                 there, _, here = name.partition(' as ')
                 found[here.strip() or there.strip()] = (f'crates/{crate}/specs/{module}.antt', there.strip())
         return found

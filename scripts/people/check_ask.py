@@ -55,10 +55,11 @@ def built(root):
     if not shutil.which('rt'):
         raise CannotRun('target/bin/check_services is not built, and rt, the Rattle toolchain that builds it, is missing.\n'
                         'Put the folder that holds rt on the PATH and run this again, or copy a built check_services to target/bin.')
-    print('check: target/bin/check_services is not there: proving and building it (rt check check_services), some minutes the first time',
+    print('check: target/bin/check_services is not there: proving and building it (scripts/build check_services), some minutes the first time',
           file=sys.stderr, flush=True)
-    ran = subprocess.run(['rt', 'check', 'check_services'], cwd=root, stdout=subprocess.PIPE, stderr=subprocess.STDOUT, check=False)
+    build = os.path.join(root, 'scripts', 'build')
+    ran = subprocess.run([build, 'check_services'], stdout=subprocess.PIPE, stderr=subprocess.STDOUT, check=False)
     if ran.returncode != 0 or not os.access(path, os.X_OK):
         last = ran.stdout.decode('utf-8', 'replace').strip().split('\n')[-1]
-        raise CannotRun(f'rt check check_services ended with status {ran.returncode} and built nothing. Its last line: {last}')
+        raise CannotRun(f'scripts/build check_services ended with status {ran.returncode} and built nothing. Its last line: {last}')
     return Program(path)

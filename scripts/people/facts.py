@@ -16,17 +16,17 @@ SETTINGS = 'crates/service/specs/Settings.antt'
 NUMBERS = 'crates/service/specs/Numbers.antt'
 
 # The rule of a setting, by the definition that reads its word.
-RULES = {'flagOf': 'flag', 'noOf': 'no', 'timeOf': 'time', 'countOf': 'count', 'signalOf': 'signal'}
+RULES = {'flag_of': 'flag', 'no_of': 'no', 'time_of': 'time', 'count_of': 'count', 'signal_of': 'signal'}
 
 # Where each limit stands, and its name there.
 LIMITS = {
-    'services': ('crates/service/specs/Limits.antt', 'maxServices'),
-    'name': ('crates/load_text/specs/Bytes.antt', 'longestName'),
-    'text': ('crates/load_lent/specs/Checks.antt', 'longestText'),
-    'texts': ('crates/load_lent/specs/Checks.antt', 'longestTexts'),
-    'dependencies': ('crates/load_description/specs/Settings.antt', 'maxDependencies'),
-    'time': ('crates/service/specs/Limits.antt', 'longestTime'),
-    'count': ('crates/service/specs/Limits.antt', 'maxCount'),
+    'services': ('crates/service/specs/Limits.antt', 'max_services'),
+    'name': ('crates/load_text/specs/Bytes.antt', 'longest_name'),
+    'text': ('crates/load_lent/specs/Checks.antt', 'longest_text'),
+    'texts': ('crates/load_lent/specs/Checks.antt', 'longest_texts'),
+    'dependencies': ('crates/load_description/specs/Settings.antt', 'max_dependencies'),
+    'time': ('crates/service/specs/Limits.antt', 'longest_time'),
+    'count': ('crates/service/specs/Limits.antt', 'max_count'),
 }
 
 DEFAULTS = 'crates/service/specs/Limits.antt'
@@ -47,7 +47,7 @@ def found_in(root, path, pattern):
 
 def units_of(root):
     """How many units of time a second has."""
-    return 10 ** int(found_in(root, DECIMALS, r'(?m)^unitsOf k = k \.value \* 10 \^ \((\d+) - k \.part\)$')[0])
+    return 10 ** int(found_in(root, DECIMALS, r'(?m)^units_of k = k\.value \* 10 \^ \((\d+) - k\.part\)$')[0])
 
 
 UNITS = units_of(ROOT)
@@ -66,14 +66,14 @@ class Facts:
 
     def __init__(self, root=ROOT):
         self.root = root
-        self.words = {'no': self.quoted('noOf'), 'type': self.quoted('kindOf'), 'signal': self.signals()}
-        self.words['flag'] = self.quoted('flagOf') + self.words['no']
+        self.words = {'no': self.quoted('no_of'), 'type': self.quoted('kind_of'), 'signal': self.signals()}
+        self.words['flag'] = self.quoted('flag_of') + self.words['no']
         self.settings = {name: (place, rule) for name, place, rule in
-                         self.found(PROPERTIES, r'(?m)^settingOf (\w+) w v = \w+ (?:(\d+) )?v \((\w+) w\)')}
+                         self.found(PROPERTIES, r'(?m)^setting_of (\w+) w v = \w+ (?:(\d+) )?v \((\w+) w\)')}
         self.properties = self.found(PROPERTIES, r'named "([a-z.\-]+)" \(?(\w+)(?: (\w+)\))?')
         self.rules = {name: self.rule(kind, which) for name, kind, which in self.properties}
         self.limits = {name: self.number(*place) for name, place in LIMITS.items()}
-        self.numbers = {field: self.number(DEFAULTS, name) for field, name in self.found(SETTINGS, r'(?m)^\s*«?(\w+)»? = (default\w+);')}
+        self.numbers = {field: self.number(DEFAULTS, name) for field, name in self.found(SETTINGS, r'(?m)^\s*«?(\w+)»? = (default_\w+);')}
         self.defaults = {name: self.default(self.rules[name], which) for name, _, which in self.properties}
 
     def found(self, path, pattern):
@@ -85,7 +85,7 @@ class Facts:
         return re.findall(r'"([^"]+)"', body)
 
     def signals(self):
-        return [word for _, word in self.found(WORDS, r'(?m)^signalName (\w+) = "(\w+)"')]
+        return [word for _, word in self.found(WORDS, r'(?m)^signal_name (\w+) = "(\w+)"')]
 
     def number(self, path, name):
         return int(self.found(path, r'(?m)^' + name + r' = (\d+)$')[0])
@@ -95,8 +95,8 @@ class Facts:
 
     def fields(self):
         """The field of each of a service's settings as numbers, in order."""
-        body = self.found(NUMBERS, r'(?ms)^settingsNumbers v =(.*?)\[\]')[0]
-        return re.findall(r'v \.«?(\w+)', body)
+        body = self.found(NUMBERS, r'(?ms)^settings_numbers v =(.*?)\[\]')[0]
+        return re.findall(r'v\.«?(\w+)', body)
 
     def default(self, rule, setting):
         """What a setting is where no line gives it: that of the field at its place among the numbers."""
@@ -105,9 +105,9 @@ class Facts:
             return seconds(number) if rule == 'time' else str(number)
         if rule == 'signal':
             variant = self.found(SETTINGS, r'(?m)^\s*signal = (\w+);')[0]
-            return self.found(WORDS, r'(?m)^signalName ' + variant + r' = "(\w+)"')[0]
+            return self.found(WORDS, r'(?m)^signal_name ' + variant + r' = "(\w+)"')[0]
         if rule == 'flag':
-            return 'yes' if self.found(SETTINGS, r'(?m)^defaultSettings = defaultsWith \w+ (true|false) 0')[0] == 'true' else 'no'
+            return 'yes' if self.found(SETTINGS, r'(?m)^default_settings = defaults_with \w+ (true|false) 0')[0] == 'true' else 'no'
         return 'no' if rule == 'no' else None
 
     def units(self):
@@ -116,7 +116,7 @@ class Facts:
 
     def digits(self):
         """How many digits a time has at most before its point and after it, and how many a count has."""
-        whole = int(self.found(DECIMALS, r'\(ltb \(k \.whole\) (\d+)\)')[0])
-        part = int(self.found(DECIMALS, r'\(ltb \(k \.part\) (\d+)\)')[0])
-        count = int(self.found(DECIMALS, r'leb \(k \.whole\) (\d+)')[0])
+        whole = int(self.found(DECIMALS, r'\(ltb k\.whole (\d+)\)')[0])
+        part = int(self.found(DECIMALS, r'\(ltb k\.part (\d+)\)')[0])
+        count = int(self.found(DECIMALS, r'leb k\.whole (\d+)')[0])
         return whole, part, count

@@ -1,7 +1,10 @@
 // The loop of loads. Names and texts come from standard input, one after the other.
+ghost use Rattle.std.specs.Prelude.{◌≤◌, length};
+
 use crate::checksum::taken_up;
 use crate::inputs::{LARGE, MIDDLE, SMALL, modulo};
 use loader::{Answer, Loaded, MAX_SERVICES, Settings, Table, load};
+use std::io::{Input, Read};
 
 // How many bytes a name has, a text, and both.
 const NAME: usize = 3;
@@ -90,10 +93,27 @@ fn position_count(n: usize) -> usize {
     if n == MIDDLE { 2 * MIDDLE } else { ENDS }
 }
 
+// Reads until the room is full, the input ends or a read fails, and answers how many bytes it put at the start of the room.
+fn read_full(input: &mut impl Read, room: &mut [u8]) -> usize
+    ensures { result ≤ length room.new }
+{
+    let mut done: usize = 0;
+    while done < room.len() {
+        let Ok(n) = input.read(&mut room[done..]) else {
+            break;
+        };
+        if n == 0 {
+            break;
+        }
+        done += n;
+    }
+    done
+}
+
 // The same with what standard input has.
-pub(crate) fn loads(n: usize, turns: usize) -> u64 {
+pub(crate) fn loads(rt: &impl Input, n: usize, turns: usize) -> u64 {
     let mut lent = [0u8; BOTH * LARGE];
-    let got = io::read_full(0, &mut lent);
+    let got = read_full(&mut rt.reader(), &mut lent);
     let ends = positions();
     let mut tokens = [0u8; 65536];
     let count = position_count(n);

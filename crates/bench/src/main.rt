@@ -1,15 +1,19 @@
 // The benchmark's program: `bench LOOP SERVICES COUNT` makes COUNT turns of a loop over 2, 8 or 32 services and writes a
 // checksum of the answers. The same loops in Rust are in second/src/bin/bench.rs, which says what each does.
+#![tactic(auto)]
+
 mod checksum;
 mod inputs;
 mod loads;
 mod loops;
 
 use inputs::{LARGE, service_at, state_up_to, table_of};
-use libc::STDOUT_FILENO;
 use loads::loads;
 use loops::{Event, PLACES, events, queries, requests, runs};
 use service::State;
+use std::io;
+use std::io::Input;
+use std::rt::Env;
 
 // The loops' names, each in 12 places.
 const NAMES: [u8; 120] =
@@ -34,11 +38,13 @@ fn number_of(digits: &[u8]) -> usize {
     number
 }
 
-// Argument i as a number.
-fn number_argument(i: usize) -> usize {
+// Argument i as a number; 0 where it is missing or too long.
+fn number_argument(rt: &impl Env, i: usize) -> usize {
     let mut word = [0u8; WORD];
-    let length = os::arg(i, &mut word);
-    number_of(&word[..length])
+    match rt.arg(i, &mut word) {
+        Ok(length) => number_of(&word[..length]),
+        Err(_) => 0,
+    }
 }
 
 fn event_loop(which: Event, n: usize, turns: usize) -> u64 {
@@ -86,7 +92,7 @@ fn loop_number(word: &[u8; WORD]) -> usize {
     k
 }
 
-fn turns_of(number: usize, n: usize, turns: usize) -> u64 {
+fn turns_of(rt: &impl Input, number: usize, n: usize, turns: usize) -> u64 {
     match number {
         0 => request_loop(n, n, turns),
         1 => request_loop(n / 2, n, turns),
@@ -97,15 +103,17 @@ fn turns_of(number: usize, n: usize, turns: usize) -> u64 {
         6 => event_loop(Event::Clock, n, turns),
         7 => query_loop(n, turns),
         8 => run_loop(n, turns),
-        9 => loads(n, turns),
+        9 => loads(rt, n, turns),
         _ => 0,
     }
 }
 
-fn main() {
+fn main(rt: HostRuntime) -> io::Result<()> {
     let mut word = [b' '; WORD];
-    os::arg(1, &mut word);
-    let sum = turns_of(loop_number(&word), number_argument(2), number_argument(3));
-    io::print_decimal(STDOUT_FILENO, sum);
-    io::write_all(STDOUT_FILENO, b"\n");
+    // Where the word is longer, its first bytes are there.
+    let _ = rt.arg(1, &mut word);
+    let n = number_argument(&rt, 2);
+    let turns = number_argument(&rt, 3);
+    let sum = turns_of(&rt, loop_number(&word), n, turns);
+    println!(rt; "{sum}")
 }

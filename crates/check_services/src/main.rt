@@ -1,14 +1,18 @@
 // Reads names from standard input, loads the files of these names in the current folder, and writes what was loaded, or the refusal.
+#![tactic(auto)]
+
 mod files;
 
 ghost use Rattle.std.specs.Prelude.{◌≤◌, length};
 
 use files::open_regular;
-use libc::{STDIN_FILENO, STDOUT_FILENO};
 use load_lent::{Answer, MAX_TEXT, MAX_TEXTS, name_at};
 use load_text::LONGEST_NAME;
 use loader::Loaded;
 use service::{Kind, MAX_SERVICES, Table};
+use std::io;
+use std::io::{Input, Read};
+use std::rt::Files;
 
 // What is kept of the names and of each text: one more than is allowed, so that the load sees it.
 const KEPT_NAMES: usize = MAX_SERVICES + 1;
@@ -22,6 +26,11 @@ const ENOUGH_TEXT: usize = MAX_TEXTS + 1;
 
 // The room for all names that are kept, and for the texts: the last may be read when all but one of those bytes were.
 const ROOM: usize = KEPT_NAMES * KEPT_NAME + MAX_TEXTS + KEPT_TEXT;
+
+// How many bytes of standard input are read, and how many of tokens there is room for.
+const INPUT: usize = 65536;
+
+const TOKENS: usize = 65536;
 
 // What a read gave: where it ended, and whether it did not fail.
 #[derive(Clone, Copy)]
@@ -56,16 +65,14 @@ fn less(a: usize, b: usize) -> usize {
 }
 
 // Reads until the room is full or the file ends.
-fn read_up(file: i32, room: &mut [u8]) -> Got
+fn read_up(file: &mut impl Read, room: &mut [u8]) -> Got
     ensures { result.end ≤ length room.old }
 {
     let mut end: usize = 0;
     while end < room.len() {
-        let got = libc::read(file, &mut room[end..]);
-        if got < 0 {
+        let Ok(n) = file.read(&mut room[end..]) else {
             return Got { good: false, end };
-        }
-        let n = io::count(got, &room[end..]);
+        };
         if n == 0 {
             break;
         }
@@ -75,7 +82,7 @@ fn read_up(file: i32, room: &mut [u8]) -> Got
 }
 
 // Reads what is kept of a file to a place of the buffer, unless enough text was read before.
-fn read_text(name: &[u8], left: usize, buffer: &mut [u8], at: usize) -> Got {
+fn read_text(files: &impl Files, name: &[u8], left: usize, buffer: &mut [u8], at: usize) -> Got {
     if left == 0 {
         return Got {
             good: true,
@@ -88,16 +95,14 @@ fn read_text(name: &[u8], left: usize, buffer: &mut [u8], at: usize) -> Got {
             end: at,
         };
     }
-    let file = open_regular(name);
-    if file < 0 {
+    let Some(mut file) = open_regular(files, name) else {
         return Got {
             good: false,
             end: at,
         };
-    }
+    };
     let end = at + least(KEPT_TEXT, buffer.len() - at);
-    let got = read_up(file, &mut buffer[at..end]);
-    libc::close(file);
+    let got = read_up(&mut file, &mut buffer[at..end]);
     Got {
         good: got.good,
         end: at + got.end,
@@ -140,14 +145,20 @@ fn put_end(ends: &mut [usize], i: usize, end: usize) {
 }
 
 // Adds a service: its name, and its text where it is to be read.
-fn add(name: &[u8], lent: Lent, buffer: &mut [u8], ends: &mut [usize]) -> Filled {
+fn add(
+    files: &impl Files,
+    name: &[u8],
+    lent: Lent,
+    buffer: &mut [u8],
+    ends: &mut [usize],
+) -> Filled {
     let services = lent.services;
     let left = lent.left;
     if KEPT_NAMES <= services {
         return Filled::Whole(lent);
     }
     let named = copy(name, buffer, lent.bytes);
-    let got = read_text(name, left, buffer, named);
+    let got = read_text(files, name, left, buffer, named);
     let end = got.end;
     put_end(ends, 2 * services, named);
     put_end(ends, 2 * services + 1, end);
@@ -162,7 +173,13 @@ fn add(name: &[u8], lent: Lent, buffer: &mut [u8], ends: &mut [usize]) -> Filled
 }
 
 // Fills the buffer with each name and its text, until `text_bytes` bytes of text were read; ends says where each ends.
-fn fill(names: &[u8], text_bytes: usize, buffer: &mut [u8], ends: &mut [usize]) -> Filled {
+fn fill(
+    files: &impl Files,
+    names: &[u8],
+    text_bytes: usize,
+    buffer: &mut [u8],
+    ends: &mut [usize],
+) -> Filled {
     let mut lent = Lent {
         services: 0,
         bytes: 0,
@@ -171,7 +188,7 @@ fn fill(names: &[u8], text_bytes: usize, buffer: &mut [u8], ends: &mut [usize]) 
     let mut at: usize = 0;
     while at < names.len() {
         let end = load_text::line_end(names, at);
-        let added = add(kept_name(names, at, end), lent, buffer, ends);
+        let added = add(files, kept_name(names, at, end), lent, buffer, ends);
         let Filled::Whole(more) = added else {
             return added;
         };
@@ -201,56 +218,62 @@ fn load_lent(lent: Lent, buffer: &[u8], ends: &[usize], tokens: &mut [u8]) -> Lo
     )
 }
 
-fn write(bytes: &[u8]) {
-    io::write_all(STDOUT_FILENO, bytes);
+fn write(rt: &impl Print, bytes: &[u8]) -> io::Result<()> {
+    rt.write_all(bytes)
 }
 
-fn write_number(n: usize) {
-    io::print_decimal(STDOUT_FILENO, n as u64);
+fn write_number(rt: &impl Print, n: usize) -> io::Result<()> {
+    rt.print(n)
 }
 
-fn write_refusal(number: u8, service: usize, line: usize, column: usize) {
-    write(b"refused ");
-    write_number(number as usize);
-    write(b" service ");
-    write_number(service);
-    write(b" line ");
-    write_number(line);
-    write(b" column ");
-    write_number(column);
-    write(b"\n");
+fn write_refusal(
+    rt: &impl Print,
+    number: u8,
+    service: usize,
+    line: usize,
+    column: usize,
+) -> io::Result<()> {
+    write(rt, b"refused ")?;
+    write_number(rt, number as usize)?;
+    write(rt, b" service ")?;
+    write_number(rt, service)?;
+    write(rt, b" line ")?;
+    write_number(rt, line)?;
+    write(rt, b" column ")?;
+    write_number(rt, column)?;
+    write(rt, b"\n")
 }
 
-fn write_kind(kind: Kind) {
+fn write_kind(rt: &impl Print, kind: Kind) -> io::Result<()> {
     match kind {
-        Kind::Process => write(b"process\n"),
-        Kind::Scripted => write(b"scripted\n"),
-        Kind::Internal => write(b"internal\n"),
+        Kind::Process => write(rt, b"process\n"),
+        Kind::Scripted => write(rt, b"scripted\n"),
+        Kind::Internal => write(rt, b"internal\n"),
     }
 }
 
 // A line for each service, and how many there are.
-fn write_services(table: Table, buffer: &[u8], ends: &[usize]) {
+fn write_services(rt: &impl Print, table: Table, buffer: &[u8], ends: &[usize]) -> io::Result<()> {
     let mut s: usize = 0;
     while s < MAX_SERVICES {
         if table.count <= s {
             break;
         }
-        write_number(s);
-        write(b" ");
-        write(name_at(buffer, ends, s));
-        write(b" ");
+        write_number(rt, s)?;
+        write(rt, b" ")?;
+        write(rt, name_at(buffer, ends, s))?;
+        write(rt, b" ")?;
         let settings = table.services[s];
         let kind = settings.kind;
-        write_kind(kind);
+        write_kind(rt, kind)?;
         s += 1;
     }
-    write(b"ok ");
-    write_number(s);
-    write(b"\n");
+    write(rt, b"ok ")?;
+    write_number(rt, s)?;
+    write(rt, b"\n")
 }
 
-fn write_loaded(loaded: Loaded, buffer: &[u8], ends: &[usize]) {
+fn write_loaded(rt: &impl Print, loaded: Loaded, buffer: &[u8], ends: &[usize]) -> io::Result<()> {
     let answer = loaded.answer;
     let Answer::Refused {
         number,
@@ -259,29 +282,45 @@ fn write_loaded(loaded: Loaded, buffer: &[u8], ends: &[usize]) {
         column,
     } = answer
     else {
-        write_services(loaded.table, buffer, ends);
-        return;
+        return write_services(rt, loaded.table, buffer, ends);
     };
-    write_refusal(number, service, line, column);
+    write_refusal(rt, number, service, line, column)
 }
 
 // Loads the names with their texts, and writes what came of it.
-fn check_texts(names: &[u8], buffer: &mut [u8], ends: &mut [usize], tokens: &mut [u8]) {
-    let filled = fill(names, ENOUGH_TEXT, buffer, ends);
+fn check_texts(
+    rt: &(impl Files + Print),
+    names: &[u8],
+    buffer: &mut [u8],
+    ends: &mut [usize],
+    tokens: &mut [u8],
+) -> io::Result<()> {
+    let filled = fill(rt, names, ENOUGH_TEXT, buffer, ends);
     match filled {
         Filled::Unreadable(s) => {
-            write(b"unreadable ");
-            write_number(s);
-            write(b"\n");
+            write(rt, b"unreadable ")?;
+            write_number(rt, s)?;
+            write(rt, b"\n")
         }
-        Filled::Whole(lent) => write_loaded(load_lent(lent, buffer, ends, tokens), buffer, ends),
+        Filled::Whole(lent) => write_loaded(
+            rt,
+            load_lent(lent, buffer, ends, tokens),
+            buffer,
+            ends,
+        ),
     }
 }
 
 // What the names alone give: 1, 3 or 4 where one is due. Any later number says only that the texts are missing.
-fn names_due(names: &[u8], buffer: &mut [u8], ends: &mut [usize], tokens: &mut [u8]) -> bool {
-    let Filled::Whole(lent) = fill(names, 0, buffer, ends) else {
-        return false;
+fn names_due(
+    rt: &(impl Files + Print),
+    names: &[u8],
+    buffer: &mut [u8],
+    ends: &mut [usize],
+    tokens: &mut [u8],
+) -> io::Result<bool> {
+    let Filled::Whole(lent) = fill(rt, names, 0, buffer, ends) else {
+        return Ok(false);
     };
     let loaded = load_lent(lent, buffer, ends, tokens);
     let answer = loaded.answer;
@@ -292,32 +331,45 @@ fn names_due(names: &[u8], buffer: &mut [u8], ends: &mut [usize], tokens: &mut [
         column,
     } = answer
     else {
-        return false;
+        return Ok(false);
     };
     if number < 5 {
-        write_refusal(number, service, line, column);
-        return true;
+        write_refusal(rt, number, service, line, column)?;
+        return Ok(true);
     }
-    false
+    Ok(false)
 }
 
 // Writes the refusal of the names where one is due, and else opens the files.
-fn check(names: &[u8], buffer: &mut [u8], ends: &mut [usize], tokens: &mut [u8]) {
-    if names_due(names, buffer, ends, tokens) {
-        return;
+fn check(
+    rt: &(impl Files + Print),
+    names: &[u8],
+    buffer: &mut [u8],
+    ends: &mut [usize],
+    tokens: &mut [u8],
+) -> io::Result<()> {
+    if names_due(rt, names, buffer, ends, tokens)? {
+        return Ok(());
     }
-    check_texts(names, buffer, ends, tokens);
+    check_texts(rt, names, buffer, ends, tokens)
 }
 
-fn run(input: &mut [u8], buffer: &mut [u8], ends: &mut [usize], tokens: &mut [u8]) {
-    let n = io::read_full(STDIN_FILENO, input);
-    check(&input[..n], buffer, ends, tokens);
+// Standard input that cannot be read counts as ended.
+fn run(
+    rt: &(impl Input + Files + Print),
+    input: &mut [u8],
+    buffer: &mut [u8],
+    ends: &mut [usize],
+    tokens: &mut [u8],
+) -> io::Result<()> {
+    let got = read_up(&mut rt.reader(), input);
+    check(rt, &input[..got.end], buffer, ends, tokens)
 }
 
-fn main() {
-    let mut input = io::large_buffer();
+fn main(rt: HostRuntime) -> io::Result<()> {
+    let mut input = [0u8; INPUT];
     let mut buffer = [0u8; ROOM];
     let mut ends = [0usize; 2 * KEPT_NAMES];
-    let mut tokens = io::large_buffer();
-    run(&mut input, &mut buffer, &mut ends, &mut tokens);
+    let mut tokens = [0u8; TOKENS];
+    run(&rt, &mut input, &mut buffer, &mut ends, &mut tokens)
 }

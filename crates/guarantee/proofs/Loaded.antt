@@ -32,7 +32,6 @@ use Rattle.load_description.specs.declared.Dependency.{Dependency as Named}
 use Rattle.load_description.specs.declared.Description.{Description}
 use Rattle.load_lent.specs.Checks.{find}
 use Rattle.load_links.specs.Links.{links_at, links_from, links_in, lowest_cyclic, no_links, services_from, services_on, settings_of, with_link}
-use Rattle.loader.specs.Load.{acyclic}
 use Rattle.load_lent.specs.Parts.{name_at, service_count, text_at}
 use Rattle.loader.specs.Texts.{descriptions_from, descriptions_on, no_descriptions}
 use Rattle.loader.proofs.Outcomes.{every_load, set_descriptions, set_services}

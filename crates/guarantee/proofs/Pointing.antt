@@ -23,7 +23,7 @@ use Rattle.load_description.specs.Texts.{text_read}
 use Rattle.load_description.specs.declared.Description.{Description}
 use Rattle.load_lent.specs.Checks.{find, longest_text, longest_texts, names_from, sizes_from}
 use Rattle.load_lent.specs.Parts.{name_at, positioned, service_count, text_at}
-use Rattle.load_lent.specs.Refusals.{bare, column_of_fault, has_byte, line_of_fault}
+use Rattle.load_lent.specs.Refusals.{column_of_fault, has_byte, line_of_fault}
 use Rattle.load_lent.specs.declared.Answer.{Answer}
 use Rattle.load_lent.specs.declared.Answer.TheVariants.{Accepted, Refused}
 use Rattle.load_links.specs.Links.{links_from, links_in, lowest_cyclic, no_links, services_from, services_on, settings_of, with_link}

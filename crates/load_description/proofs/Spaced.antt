@@ -1,6 +1,6 @@
 -- "Value": what is read of a value and its string of bytes (`spaced`). A value that is a word is read as its string. One of several tokens is refused,
 -- and so is its string by every rule, since no rule takes the space in it.
-use mathlib.Core.Path.{◌≡◌, refl, ap, sym, ◌∙◌}
+use mathlib.Core.Path.{◌≡◌, refl, ap, ◌∙◌}
 use mathlib.Core.Bool.{Bool, true, false, ◌||◌}
 use mathlib.Core.List.{List, [], ◌∷◌, ◌++◌}
 use Prim.Native.Nat.{ℕ, ◌<◌}

@@ -19,7 +19,7 @@ use Rattle.load_value.specs.declared.Step.TheVariants.{Skip, Quote, Keep, Close,
 use Rattle.load_value.specs.declared.Sizes.{Sizes}
 use Rattle.load_value.specs.declared.Scan.TheVariants.{Tokens}
 use Rattle.load_value.specs.Steps.{between, in_token, escaping, in_comment, bare_step, step_of}
-use Rattle.load_value.specs.Values.{Mark, kept, close, ended, onward, fault_from, marked, marks_from, byte_of, written, joined, spaced}
+use Rattle.load_value.specs.Values.{Mark, kept, close, onward, fault_from, marked, marks_from, byte_of, written, joined, spaced}
 use Rattle.load_value.specs.Values.{counted, no_sizes, sizes_from, scan_of, longest_word, word_room, is_word, leading, word_of}
 use Rattle.load_value.proofs.Counts.{scan_counted}
 

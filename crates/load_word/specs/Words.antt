@@ -1,5 +1,5 @@
 -- Trusted: "Yes or no", types and signals, and names of services (number 3).
-use Rattle.std.specs.Prelude.{ℕ, zero, suc, ◌+◌, Bool, true, false, ◌&&◌, List, [], ◌∷◌, leb, ltb, length}
+use Rattle.std.specs.Prelude.{ℕ, zero, suc, ◌+◌, Bool, true, ◌&&◌, List, [], ◌∷◌, leb, ltb, length}
 use Prim.Native.String.{String}
 use Rattle.base.specs.Folds.{pick}
 use Rattle.load_text.specs.Strings.{bytes, same, index_from}

@@ -35,7 +35,7 @@ use Rattle.rules.proofs.Formed.{AnyStage, any_rule, leaves_shaped}
 use Rattle.rules.proofs.LastStage.{Change, before_with, tidy}
 use Rattle.rules.proofs.Links.{hard_strong}
 use Rattle.rules.proofs.Next.{Before, Fires, next_either, place}
-use Rattle.rules.proofs.Rest.{Ends, Turn, acts, fired_lighter, stage, stays_still}
+use Rattle.rules.proofs.Rest.{Ends, Turn, fired_lighter, stage, stays_still}
 use Rattle.rules.proofs.Shapes.{begin_active, begin_not_down, begin_not_waiting, ending_caused, expire_not_up, serving_running, waiting_uncaused}
 use Rattle.rules.proofs.Weights.{Weight, total, total_with}
 

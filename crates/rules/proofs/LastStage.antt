@@ -6,7 +6,6 @@ use mathlib.Core.Logic.{◌↔◌, ◌≢◌, ◌⊎◌, inl, inr}
 use mathlib.Core.Path.{◌≡◌}
 use native.Mathlib.Omega.{arith}
 use Rattle.base.specs.Folds.{some}
-use Rattle.base.specs.Links.{on}
 use Rattle.base.proofs.Below.{some_false, some_true}
 use Rattle.base.proofs.Tests.{and_false, and_true, either, not_both, or_not, or_true, refute, tests}
 use Rattle.service.specs.Limits.{max_services}

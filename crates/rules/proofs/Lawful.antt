@@ -8,22 +8,20 @@ use mathlib.Core.Logic.{◌⊎◌, inl, inr}
 use mathlib.Core.Path.{◌∙◌, ◌≡◌, refl, sym}
 use native.Mathlib.Nat.{le_refl, le_trans}
 use Rattle.base.proofs.Tests.{either, no_tf}
-use Rattle.service.specs.Limits.{max_services}
 use Rattle.service.specs.Records.{active, is_up, record_at, with_record}
 use Rattle.service.specs.Settings.{settings_at}
-use Rattle.service.specs.declared.Phase.{Phase}
 use Rattle.service.specs.declared.Record.{Record}
 use Rattle.service.specs.declared.State.{State}
 use Rattle.service.specs.declared.Table.{Table}
 use Rattle.service.proofs.States.{With, other, same, with_all, with_at}
 use Rattle.rules.specs.Demand.{Mark, Moment, NoZeroTimeout, Set, began, deadline_kill, ended, handed, kills_by, moment, passed, recorded_by, sent_by}
 use Rattle.rules.specs.Dependencies.{hard}
-use Rattle.rules.specs.Events.{after_clock, after_end, after_start, after_stop, after_stop_all, brings, each, ended_as, start_reaches, started_as, stopped}
-use Rattle.rules.specs.Rules.{act, hands, leaves, next_action}
+use Rattle.rules.specs.Events.{after_clock, after_end, after_start, after_stop, after_stop_all, brings, each, start_reaches, started_as, stopped}
+use Rattle.rules.specs.Rules.{act, hands, leaves}
 use Rattle.rules.specs.declared.Choice.TheVariants.{Fit}
 use Rattle.rules.specs.declared.Rule.{Rule}
 use Rattle.rules.proofs.Each.{each_below, each_clock}
-use Rattle.rules.proofs.Formed.{Sound, sound_clock, sound_end, sound_rule, sound_start, sound_step, sound_stop, sound_stop_all}
+use Rattle.rules.proofs.Formed.{Sound, sound_clock, sound_end, sound_rule, sound_start, sound_stop, sound_stop_all}
 use Rattle.rules.proofs.Halting.{Goes, ended_halting, goes_refl, halting_at, leaves_halting, stop_goes, stop_halting, stopped_ending}
 use Rattle.rules.proofs.Held.{Comes, Parts, Unblocked, end_comes, end_parts, rule_comes, rule_parts}
 use Rattle.rules.proofs.Links.{TableSound}

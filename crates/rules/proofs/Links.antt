@@ -15,7 +15,7 @@ use Rattle.base.proofs.Tests.{either, or_true, tests}
 use Rattle.service.specs.Limits.{max_services}
 use Rattle.service.specs.Settings.{settings_at}
 use Rattle.service.specs.declared.Table.{Table}
-use Rattle.rules.specs.Dependencies.{all_links, depends, hard, hard_links, soft, strong, strong_links}
+use Rattle.rules.specs.Dependencies.{all_links, depends, hard, hard_links, strong, strong_links}
 use Rattle.rules.specs.WellFormed.{links_inside, settings_in_range, table_formed}
 
 pub hard_strong : (t : Table) (s d : ℕ) → hard t s d ≡ true → strong t s d ≡ true

@@ -10,7 +10,6 @@ use Rattle.base.specs.Folds.{pick}
 use Rattle.base.proofs.Tests.{not_both, not_true, refute}
 use Rattle.service.specs.Records.{is_starting, is_up, record_at}
 use Rattle.service.specs.Settings.{form_of, settings_at, is_passing}
-use Rattle.service.specs.declared.Action.{Action}
 use Rattle.service.specs.declared.Action.TheVariants.{Launch, Moved, Quiet, Signal, StopCommand}
 use Rattle.service.specs.declared.Form.{Form}
 use Rattle.service.specs.declared.Form.TheVariants.{Bare, Passing, Direct, Delayed}

@@ -1,7 +1,6 @@
 -- A list of calls as single steps: what a step is, that the moments of every list are steps in a row, and what steps in a row keep. Refusals,
 -- queries and runs are dealt with here, once.
-use Prim.Native.Nat.{◌*◌, ◌<◌, ◌≤◌, suc, zero, ℕ}
-use lib.ListN.{length}
+use Prim.Native.Nat.{◌<◌, ◌≤◌, suc, zero, ℕ}
 use mathlib.Core.Bool.{Bool, ◌&&◌, false, not, true}
 use mathlib.Core.List.{List, [], ◌++◌, ◌∷◌}
 use mathlib.Core.Path.{◌≡◌, refl}
@@ -16,7 +15,7 @@ use Rattle.rules.specs.Calls.{Call, Outcome, after_calls, outcome}
 use Rattle.rules.specs.Demand.{Each, Mark, Moment, accepted, began, deadline_kill, ended, fed, handed, is_refused, is_start, moment, moments, moments_by, passed, story}
 use Rattle.rules.specs.Events.{after_clock, after_end, after_start, after_stop, after_stop_all}
 use Rattle.rules.specs.Rules.{next_action}
-use Rattle.rules.specs.Runs.{action_after, state_after, steps_to_quiet, written_actions, written_services}
+use Rattle.rules.specs.Runs.{action_after, state_after, steps_to_quiet}
 use Rattle.rules.proofs.Came.{Came, acts as came-acts, came, clocks as came-clocks, ends as came-ends, refuses, runs, starts as came-starts, stops as came-stops, stops_all as came-stops-all, tells}
 use Rattle.rules.proofs.Runs.{action_first, action_none, after_first, after_none, read_back_lem}
 

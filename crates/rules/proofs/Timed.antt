@@ -1,5 +1,5 @@
 -- A service that is starting or ending has a deadline, where no timeout is zero.
-use Prim.Native.Nat.{◌+◌, ◌<◌, ◌≤◌, ℕ}
+use Prim.Native.Nat.{◌+◌, ◌<◌, ℕ}
 use borrow.Author.Tests.{ne_eqb}
 use mathlib.Core.Bool.{Bool, ◌&&◌, ◌||◌, false, not, true}
 use mathlib.Core.Logic.{◌≢◌}

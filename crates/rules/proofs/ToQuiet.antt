@@ -12,7 +12,7 @@ use Rattle.service.specs.declared.Table.{Table}
 use Rattle.service.proofs.States.{Sized}
 use Rattle.rules.specs.Calls.{Answer, Call, Outcome, acted, check, done, next, outcome, ran, refused, run, told}
 use Rattle.rules.specs.Demand.{Now, Rests, Stretch, ToQuiet, accepted, call, empty, eventless, is_event, is_refused, is_start, now_after}
-use Rattle.rules.specs.Rules.{Step, next_action}
+use Rattle.rules.specs.Rules.{Step}
 use Rattle.rules.specs.Runs.{action_after, state_after, steps_to_quiet}
 use Rattle.rules.specs.WellFormed.{formed}
 use Rattle.rules.proofs.Came.{Came, acts, came, refuses, runs}

@@ -310,33 +310,33 @@ AlwaysFormed = (t : Table) → table_formed t ≡ true → (cs : List Call) → 
 -- ---- WHAT THE STATEMENT RESTS ON, and where it stands: every definition that it comes down to, by file. scripts/check_docs holds this list to
 -- what the definitions name.
 --
--- Proved in proofs/Demand.antt (demand3), proofs/Resting.antt (rests-everywhere), proofs/Formed.antt (always-formed);
--- inhabited in proofs/Sample.antt (sample, sample-down).
+-- Proved in proofs/Demand.antt (demand3), proofs/Resting.antt (rests_everywhere), proofs/Formed.antt (always_formed);
+-- inhabited in proofs/Sample.antt (sample, sample_down).
 --
--- rules/Demand          Mark, Moment, moment, killsBy, deadlineKill, readBack, eventMark, momentsBy, moments, story, fed, Each, Set, nobody, with,
---                       without, recordedBy, recorded, sentBy, sent, ActsOn, ClearBy, Clear, is_refused, isEvent, isStart, accepted, eventless,
---                       isAction, actionsIn, Rests, Now, freshNow, nowAfter, Stretch, ToQuiet, Reported, Round, Rounds, nowAt, WoundDown,
---                       NoZeroTimeout, Holds, Demand3, RestsEverywhere, AlwaysFormed
--- rules/Calls           Call, Answer, Outcome, lentServices, lentActions, gives, check, outcome, afterCalls
--- rules/Runs            stateAfter, actionAfter, stepsToQuiet, written, writtenServices, writtenActions, above, sooner, soonerOf, earliest
--- rules/Rules           running, nothingToEnd, due, deadlineIn, fits, lostToUser, abandoned, released, begunPhase, begunLive, begunDeadline, begun,
---                       ending, expired, leftBy, leaves, begunAction, termAction, endAction, expiredAction, handedBy, hands, Step, rules,
---                       chosenFrom, chosen, act, actOn, nextAction
--- rules/Events          each, startReaches, revivedCause, startedAs, afterStart, stoppedPhase, stopped, afterStop, afterStopAll, dead, startedUp,
---                       brings, endedAs, afterEnd, afterClock
--- rules/Settling        windowOver, windowNow, countNow, limitReached, settledWanted, settledAside, settledNotBefore, settledWindow, settledCount,
---                       settledAs, settled
--- rules/WellFormed      linksInside, settingsInRange, tableFormed, deadlineInRange, timesInRange, shaped, shapedAt, stateFormed, formed
--- rules/Dependencies    hardLinks, strongLinks, allLinks, hard, strong, soft, depends, serving, closing, barred, blocked, needed
--- service/Limits        maxServices, longestTime, maxCount, lastClock, lastTime, defaultDelay, defaultInterval, defaultLimit, defaultStartTimeout,
---                       defaultStopTimeout
--- service/Settings      formOfKind, formOf, isPassing, startsFirst, livesUp, strongOf, linksOf, defaultsWith, defaultSettings, settingsAt
--- service/Records       isDown, isWaiting, isStarting, isUp, isEnding, active, isNone, isUser, freshRecord, remade, moved, flagged, clocked,
---                       withPhase, withCause, withWanted, withAside, withLive, withKilled, withNotBefore, withLaunch, withWindow, withCount,
---                       freshState, recordAt, withRecord
--- service/Numbers       signalNumber, signalAt, isQuiet, actionService, actionNumber, actionOf
--- base/Folds            pick, implies, fold, some, every, firstFrom, first, listed
--- base/Sets             hasBit, within
+-- rules/Demand          Mark, Moment, moment, kills_by, deadline_kill, read_back, event_mark, moments_by, moments, story, fed, Each, Set, nobody,
+--                       with, without, recorded_by, recorded, sent_by, sent, ActsOn, ClearBy, Clear, is_refused, is_event, is_start, accepted,
+--                       eventless, is_action, actions_in, Rests, Now, fresh_now, now_after, Stretch, ToQuiet, Reported, Round, Rounds, now_at,
+--                       WoundDown, NoZeroTimeout, Holds, Demand3, RestsEverywhere, AlwaysFormed
+-- rules/Calls           Call, Answer, Outcome, lent_services, lent_actions, gives, check, outcome, after_calls
+-- rules/Runs            state_after, action_after, steps_to_quiet, written, written_services, written_actions, above, sooner, sooner_of, earliest
+-- rules/Rules           running, nothing_to_end, due, deadline_in, fits, lost_to_user, abandoned, released, begun_phase, begun_live, begun_deadline,
+--                       begun, ending, expired, left_by, leaves, begun_action, term_action, end_action, expired_action, handed_by, hands, Step,
+--                       rules, chosen_from, chosen, act, act_on, next_action
+-- rules/Events          each, start_reaches, revived_cause, started_as, after_start, stopped_phase, stopped, after_stop, after_stop_all, dead,
+--                       started_up, brings, ended_as, after_end, after_clock
+-- rules/Settling        window_over, window_now, count_now, limit_reached, settled_wanted, settled_aside, settled_not_before, settled_window,
+--                       settled_count, settled_as, settled
+-- rules/WellFormed      links_inside, settings_in_range, table_formed, deadline_in_range, times_in_range, shaped, shaped_at, state_formed, formed
+-- rules/Dependencies    hard_links, strong_links, all_links, hard, strong, soft, depends, serving, closing, barred, blocked, needed
+-- service/Limits        max_services, longest_time, max_count, last_clock, last_time, default_delay, default_interval, default_limit,
+--                       default_start_timeout, default_stop_timeout
+-- service/Settings      form_of_kind, form_of, is_passing, starts_first, lives_up, strong_of, links_of, defaults_with, default_settings, settings_at
+-- service/Records       is_down, is_waiting, is_starting, is_up, is_ending, active, is_none, is_user, fresh_record, remade, moved, flagged, clocked,
+--                       with_phase, with_cause, with_wanted, with_aside, with_live, with_killed, with_not_before, with_launch, with_window,
+--                       with_count, fresh_state, record_at, with_record
+-- service/Numbers       signal_number, signal_at, is_quiet, action_service, action_number, action_of
+-- base/Folds            pick, implies, fold, some, every, first_from, first, listed
+-- base/Sets             has_bit, within
 -- base/Links            Path, through, reach, cyclic
 -- the declared types    in crates/service/src/lib.rt and crates/rules/src/lib.rt
--- the library           lists (get_or, set, length, replicate), numbers and their tests (leb, ltb, eqb, bitOr), Bool
+-- the library           lists (get_or, set, length, replicate), numbers and their tests (leb, ltb, eqb, bit_or), Bool

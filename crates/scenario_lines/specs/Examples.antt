@@ -1,5 +1,5 @@
 -- Of the code: the forms are as many as said, and stand where it is said; worked examples of lines, in one table with one statement.
-use Rattle.std.specs.Prelude.{ℕ, ◌+◌, Bool, true, false, ◌≡◌, refl, List, [], ◌∷◌, map, length, get_or}
+use Rattle.std.specs.Prelude.{ℕ, ◌+◌, Bool, true, false, ◌≡◌, refl, List, [], ◌∷◌, map, length}
 use Prim.Native.String.{String}
 use Rattle.base.specs.Folds.{every, first}
 use Rattle.service.specs.Numbers.{cause_number, phase_number}

@@ -1,5 +1,5 @@
 -- Of the code: numbers computed after lines that set one.
-use Rattle.std.specs.Prelude.{ℕ, ◌+◌, List, ◌≡◌, refl, get_or, replicate, set}
+use Rattle.std.specs.Prelude.{ℕ, ◌+◌, List, ◌≡◌, refl, replicate, set}
 use Rattle.plain_encoding.specs.Numbers.{all_numbers, place_of}
 use Rattle.scenario_lines.specs.Lines.{set_record, set_table}
 use Rattle.scenario_setting.specs.Setting.{deadline_set, number_set, state_after, table_after, time_place, timed_place}

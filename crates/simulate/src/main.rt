@@ -1,4 +1,6 @@
 // Reads a scenario from standard input, and writes the answer to each of its calls.
+#![tactic(auto)]
+
 mod calls;
 mod filling;
 mod listing;
@@ -10,7 +12,6 @@ ghost use Rattle.std.specs.Prelude.{◌<◌, ◌≤◌, length};
 
 use calls::{call_run, reply_to};
 use filling::number_at;
-use libc::STDIN_FILENO;
 use listing::{put_state, put_table};
 use load_text::{line_end, part};
 use loading::{Stand, TokenBuffer, load_line};
@@ -22,6 +23,8 @@ use scenario_lines::{
     STATE, read_line,
 };
 use scenario_services::{Buffer, Given, POSITIONS, Positions, ROOM, bare, given_after};
+use std::io;
+use std::io::{Input, Read};
 use writing::put_reply;
 
 // What is read of a scenario.
@@ -181,10 +184,27 @@ fn ended(input: &mut [u8], n: usize) -> usize {
     n
 }
 
+// Reads until the room is full, the input ends or a read fails, and answers how many bytes it put at the start of the room.
+fn read_full(input: &mut impl Read, room: &mut [u8]) -> usize
+    ensures { result ≤ length room.new }
+{
+    let mut done: usize = 0;
+    while done < room.len() {
+        let Ok(n) = input.read(&mut room[done..]) else {
+            break;
+        };
+        if n == 0 {
+            break;
+        }
+        done += n;
+    }
+    done
+}
+
 // Reads the scenario, and has its last line end in a newline as every other: what that adds is at most a line of no bytes.
-fn read_scenario(input: &mut [u8]) -> usize {
+fn read_scenario(rt: &impl Input, input: &mut [u8]) -> usize {
     if MOST_BYTES <= input.len() {
-        let n = io::read_full(STDIN_FILENO, &mut input[0..MOST_BYTES]);
+        let n = read_full(&mut rt.reader(), &mut input[0..MOST_BYTES]);
         return ended(input, n);
     }
     0
@@ -194,7 +214,7 @@ fn read_scenario(input: &mut [u8]) -> usize {
 fn play(scenario: &[u8], out: &mut Output) -> usize {
     let mut buffer = [0u8; ROOM];
     let mut positions = [0usize; POSITIONS];
-    let mut tokens = io::large_buffer();
+    let mut tokens = [0u8; 65536];
     let mut table = [0u64; ALL];
     let mut state = [0u64; ALL];
     let mut counts = [0u64; COUNTS];
@@ -210,10 +230,10 @@ fn play(scenario: &[u8], out: &mut Output) -> usize {
     )
 }
 
-fn main() {
+fn main(rt: HostRuntime) -> io::Result<()> {
     let mut input = [0u8; MOST_BYTES + 1];
-    let mut out = io::large_buffer();
-    let n = read_scenario(&mut input);
+    let mut out = Output::new(rt.stdout());
+    let n = read_scenario(&rt, &mut input);
     let at = play(part(&input, 0, n), &mut out);
-    write_rest(&out, at);
+    write_rest(&mut out, at)
 }

@@ -1,20 +1,45 @@
 // The output, collected in a lent buffer and written in large pieces. Each function answers the place after what it put.
-use libc::STDOUT_FILENO;
 use load_text::part;
+use std::io::Stdout;
+use std::mem;
 
-pub(crate) type Output = [u8; 65536];
+// Where the output goes, what is collected of it, and whether all that was to be written was.
+#[derive(Drop)]
+pub(crate) struct Output {
+    to: Stdout,
+    bytes: [u8; 65536],
+    written: std::io::Result<()>,
+}
+
+impl Output {
+    pub(crate) fn new(to: Stdout) -> Output {
+        Output {
+            to,
+            bytes: [0; 65536],
+            written: Ok(()),
+        }
+    }
+}
 
 // How many members a set can have: each is a bit.
 const SET_BITS: u64 = 64;
 
+// Writes out the bytes before a place, unless a write failed before.
+fn write_out(out: &mut Output, at: usize) {
+    if out.written.is_ok() {
+        out.written = out.to.write_all(part(&out.bytes, 0, at));
+    }
+}
+
 // Puts a byte; where the buffer is full it is written out first.
 pub(crate) fn put(out: &mut Output, at: usize, byte: u8) -> usize {
-    if at < out.len() {
-        out[at] = byte;
+    if at < out.bytes.len() {
+        out.bytes[at] = byte;
         return at + 1;
     }
-    io::write_all(STDOUT_FILENO, out);
-    out[0] = byte;
+    let all = out.bytes.len();
+    write_out(out, all);
+    out.bytes[0] = byte;
     1
 }
 
@@ -76,7 +101,8 @@ pub(crate) fn put_set(out: &mut Output, at: usize, set: u64) -> usize {
     to
 }
 
-// Writes out what is still in the buffer.
-pub(crate) fn write_rest(out: &Output, at: usize) {
-    io::write_all(STDOUT_FILENO, part(out, 0, at));
+// Writes out what is still in the buffer, and answers the first error of all writes.
+pub(crate) fn write_rest(out: &mut Output, at: usize) -> std::io::Result<()> {
+    write_out(out, at);
+    mem::replace(&mut out.written, Ok(()))
 }

@@ -1,5 +1,4 @@
 -- `lowest` meets its contract: the lowest number of the set with n as well is the one asked for.
-use borrow.Author.Rules.{rules}
 use Rattle.base.proofs.Sets.{first_empty}
 use Rattle.base.proofs.Zeros.{lowest_below, lowest_past}
 use Rattle.base.proofs.lowest.Goals as goal

@@ -1,6 +1,5 @@
 -- `single_of` meets its contract: the shift stays in the word.
 use Rattle.base.proofs.Words.{shifted_guarded, empty_guarded, empty_high}
-use borrow.Author.Rules.{rules}
 use Rattle.base.proofs.single_of.Goals as goal
 
 pub returns-then-b : goal.returns-then-b

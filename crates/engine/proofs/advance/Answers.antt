@@ -1,18 +1,14 @@
 -- `advance` meets its contract: k actions are handed out; in each step two passes gather the sets, and the choice is made from them.
-use Prim.Native.Nat.{ℕ, ◌-◌, ◌<◌}
 use native.Mathlib.Nat.{le_trans}
 use mathlib.Core.Path.{◌≡◌}
-use lib.ListN.{get_or, length}
+use lib.ListN.{length}
 use Rattle.base.proofs.Lists.{length_mapped}
-use Rattle.base.proofs.Loops.{Folded, folded_none}
+use Rattle.base.proofs.Loops.{folded_none}
 use Rattle.service.specs.Limits.{max_services}
-use Rattle.service.specs.Settings.{settings_at}
 use Rattle.service.specs.Records.{record_at, with_record}
-use Rattle.service.specs.declared.Settings.{Settings}
 use Rattle.service.proofs.Reading.{settings_read}
-use Rattle.engine_choice.specs.Standing.{nowhere, noting}
-use Rattle.engine_choice.proofs.Passes.{Fitting, fitting_none, fitting_more, noting_more}
-use Rattle.engine.proofs.Running.{Running, running_none, running_room, running_all, turn_inside, turn_quiet, turn_on}
+use Rattle.engine_choice.proofs.Passes.{fitting_none, fitting_more, noting_more}
+use Rattle.engine.proofs.Running.{running_none, running_room, running_all, turn_inside, turn_quiet, turn_on}
 use borrow.Author.Rules.{rules}
 use Rattle.engine.proofs.advance.Goals as goal
 

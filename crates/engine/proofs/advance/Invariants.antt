@@ -1,18 +1,8 @@
-use Prim.Native.Nat.{ℕ, ◌-◌, ◌<◌}
-use native.Mathlib.Nat.{le_trans}
-use mathlib.Core.Path.{◌≡◌}
-use lib.ListN.{get_or, length}
-use Rattle.base.proofs.Lists.{length_mapped}
-use Rattle.base.proofs.Loops.{Folded, folded_none}
-use Rattle.service.specs.Limits.{max_services}
-use Rattle.service.specs.Settings.{settings_at}
-use Rattle.service.specs.Records.{record_at, with_record}
-use Rattle.service.specs.declared.Settings.{Settings}
-use Rattle.service.proofs.Reading.{settings_read}
+use Prim.Native.Nat.{◌-◌}
+use Rattle.base.proofs.Loops.{Folded}
 use Rattle.engine_choice.specs.Standing.{nowhere, noting}
-use Rattle.engine_choice.proofs.Passes.{Fitting, fitting_none, fitting_more, noting_more}
-use Rattle.engine.proofs.Running.{Running, running_none, running_room, running_all, turn_inside, turn_quiet, turn_on}
-use borrow.Author.Rules.{rules}
+use Rattle.engine_choice.proofs.Passes.{Fitting}
+use Rattle.engine.proofs.Running.{Running}
 use Rattle.engine.proofs.advance.Given as goal
 
 abbrev pub invariant-loop-i : goal.invariant-loop-i

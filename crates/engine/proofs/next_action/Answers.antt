@@ -1,6 +1,5 @@
 -- `next_action` meets its contract: list 24, then a run of at most one action.
-use borrow.Author.Rules.{rules}
-use mathlib.Core.Path.{◌∙◌, refl, sym}
+use mathlib.Core.Path.{◌∙◌, sym}
 use native.Mathlib.Omega.{arith}
 use Rattle.rules.specs.Calls.{check, outcome}
 use Rattle.rules.proofs.Formed.{formed_few}

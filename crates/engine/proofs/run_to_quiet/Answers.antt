@@ -40,13 +40,16 @@ returns-then-room-actions c =
 pub returns-then-room-services : goal.returns-then-room-services
 unfolding outcome check
 returns-then-room-services c =
-    record { actions_after = simp (
+    record {
+      actions_after = simp (
         c.refuse_run.ensures,
         lt-leb _ _ c.if-room-actions.false,
         le-leb _ _ c.if-room-services.true,
         c.if-is_formed.true,
         ← c.is_formed.ensures,
-      ); result_value = rw c.refuse_run.ensures }
+      );
+      result_value = rw c.refuse_run.ensures;
+    }
 
 pub returns-then-is_formed : goal.returns-then-is_formed
 unfolding outcome check

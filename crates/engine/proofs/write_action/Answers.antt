@@ -1,5 +1,4 @@
 -- `write_action` meets its contract: by the numbers of the action.
-use borrow.Author.Rules.{rules}
 use Rattle.engine.proofs.write_action.Goals as goal
 
 pub returns : goal.returns

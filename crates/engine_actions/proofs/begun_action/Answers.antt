@@ -1,5 +1,4 @@
 -- `begun_action` meets its contract: each form by its own arm.
-use borrow.Author.Rules.{rules}
 use Rattle.engine_actions.proofs.begun_action.Goals as goal
 
 pub returns-in-Bare : goal.returns-in-Bare

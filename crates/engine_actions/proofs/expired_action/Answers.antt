@@ -1,5 +1,4 @@
 -- `expired_action` meets its contract: by the phase.
-use borrow.Author.Rules.{rules}
 use Rattle.engine_actions.proofs.expired_action.Goals as goal
 
 pub returns-then-is_starting : goal.returns-then-is_starting

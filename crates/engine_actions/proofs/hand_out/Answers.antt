@@ -1,5 +1,4 @@
 -- `hand_out` meets its contract: each rule by its own arm.
-use borrow.Author.Rules.{rules}
 use Rattle.engine_actions.proofs.hand_out.Goals as goal
 
 pub returns-in-Lose : goal.returns-in-Lose

@@ -1,5 +1,4 @@
 -- `term_action` meets its contract: each signal by its own arm.
-use borrow.Author.Rules.{rules}
 use Rattle.engine_actions.proofs.term_action.Goals as goal
 
 pub returns-in-None : goal.returns-in-None

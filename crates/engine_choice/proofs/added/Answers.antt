@@ -1,5 +1,4 @@
 -- `added` meets its contract: by the functions that it calls.
-use borrow.Author.Rules.{rules}
 use Rattle.engine_choice.proofs.added.Goals as goal
 
 pub returns : goal.returns

@@ -1,7 +1,6 @@
 -- `choose` meets its contract: the rules are tried in order.
 use Rattle.engine_choice.specs.Fits.{choice_from}
 use Rattle.engine_choice.proofs.Tried.{in_fits, in_none}
-use borrow.Author.Rules.{rules}
 use Rattle.engine_choice.proofs.choose.Goals as goal
 
 pub returns-then-lose-n : goal.returns-then-lose-n

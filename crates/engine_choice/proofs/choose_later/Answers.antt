@@ -1,7 +1,6 @@
 -- `choose_later` meets its contract: the rules are tried in order.
 use Rattle.engine_choice.specs.Fits.{later_choice}
 use Rattle.engine_choice.proofs.Tried.{in_fits, in_none}
-use borrow.Author.Rules.{rules}
 use Rattle.engine_choice.proofs.choose_later.Goals as goal
 
 pub returns-then-release-n : goal.returns-then-release-n

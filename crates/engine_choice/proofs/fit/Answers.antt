@@ -1,5 +1,4 @@
 -- `fit` meets its contract: by the functions that it calls.
-use borrow.Author.Rules.{rules}
 use Rattle.engine_choice.proofs.fit.Goals as goal
 
 pub returns : goal.returns

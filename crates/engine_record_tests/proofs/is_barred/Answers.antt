@@ -1,5 +1,4 @@
 -- `is_barred` meets its contract: by the tests that it calls.
-use borrow.Author.Rules.{rules}
 use Rattle.engine_record_tests.proofs.is_barred.Goals as goal
 
 pub returns : goal.returns

@@ -1,5 +1,4 @@
 -- `deadline_in_range` meets its contract: each case by its own arm.
-use borrow.Author.Rules.{rules}
 use Rattle.engine_wellformed.proofs.deadline_in_range.Goals as goal
 
 pub returns-in-At : goal.returns-in-At

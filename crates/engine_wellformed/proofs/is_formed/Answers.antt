@@ -1,15 +1,12 @@
 -- `is_formed` meets its contract: list 24, from each service and the rows.
 use borrow.Author.Rules.{rules}
-use Prim.Native.Nat.{◌-◌}
 use mathlib.Core.Path.{◌≡◌, refl}
 use lib.ListN.{length}
 use Rattle.base.proofs.Lists.{length_mapped}
-use Rattle.base.proofs.Filled.{Filling, filling_none, filling_all}
-use Rattle.base.proofs.Loops.{Every, folded_none, every_more, every_all}
+use Rattle.base.proofs.Filled.{filling_none, filling_all}
+use Rattle.base.proofs.Loops.{folded_none, every_all}
 use Rattle.service.specs.Limits.{max_services}
-use Rattle.service.specs.Settings.{settings_at}
 use Rattle.service.specs.Records.{record_at}
-use Rattle.rules.specs.Dependencies.{all_links}
 use Rattle.engine_wellformed.specs.Place.{place_formed}
 use Rattle.engine_wellformed.proofs.Read.{every_read, filling_read}
 use Rattle.engine_wellformed.proofs.Whole.{formed_found, not_formed}

@@ -1,17 +1,11 @@
-use borrow.Author.Rules.{rules}
 use Prim.Native.Nat.{◌-◌}
-use mathlib.Core.Path.{◌≡◌, refl}
-use lib.ListN.{length}
-use Rattle.base.proofs.Lists.{length_mapped}
-use Rattle.base.proofs.Filled.{Filling, filling_none, filling_all}
-use Rattle.base.proofs.Loops.{Every, folded_none, every_more, every_all}
+use Rattle.base.proofs.Filled.{Filling}
+use Rattle.base.proofs.Loops.{Every}
 use Rattle.service.specs.Limits.{max_services}
 use Rattle.service.specs.Settings.{settings_at}
 use Rattle.service.specs.Records.{record_at}
 use Rattle.rules.specs.Dependencies.{all_links}
 use Rattle.engine_wellformed.specs.Place.{place_formed}
-use Rattle.engine_wellformed.proofs.Read.{every_read, filling_read}
-use Rattle.engine_wellformed.proofs.Whole.{formed_found, not_formed}
 use Rattle.engine_wellformed.proofs.is_formed.Given as goal
 
 abbrev pub invariant-loop-i : goal.invariant-loop-i

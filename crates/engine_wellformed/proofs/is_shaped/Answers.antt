@@ -1,5 +1,4 @@
 -- `is_shaped` meets its contract: each phase by its own arm.
-use borrow.Author.Rules.{rules}
 use Rattle.engine_wellformed.proofs.is_shaped.Goals as goal
 
 pub returns-in-Down : goal.returns-in-Down

@@ -1,11 +1,7 @@
-use borrow.Author.Rules.{rules}
 use Prim.Native.Nat.{◌-◌}
-use mathlib.Core.Path.{refl}
-use Rattle.base.proofs.Lists.{length_mapped}
-use Rattle.base.proofs.Filled.{Filling, filling_none, filling_all}
+use Rattle.base.proofs.Filled.{Filling}
 use Rattle.service.specs.Limits.{max_services}
 use Rattle.rules.specs.Dependencies.{all_links}
-use Rattle.engine_wellformed.proofs.Read.{filling_read}
 use Rattle.engine_wellformed.proofs.link_rows.Given as goal
 
 abbrev pub invariant-loop-i : goal.invariant-loop-i

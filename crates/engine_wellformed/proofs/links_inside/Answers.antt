@@ -1,5 +1,4 @@
 -- `links_inside` meets its contract: by the tests that it calls.
-use borrow.Author.Rules.{rules}
 use Rattle.engine_wellformed.proofs.links_inside.Goals as goal
 
 pub returns : goal.returns

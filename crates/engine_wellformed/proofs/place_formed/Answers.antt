@@ -1,6 +1,5 @@
 -- `place_formed` meets its contract: by the tests that it calls.
 use Rattle.engine_wellformed.specs.Place.{place_formed}
-use borrow.Author.Rules.{rules}
 use Rattle.engine_wellformed.proofs.place_formed.Goals as goal
 
 pub returns : goal.returns

@@ -1,6 +1,5 @@
 -- `reach_set` meets its contract: what the rows reach, the dependencies do.
 use Rattle.engine_wellformed.proofs.Whole.{reach_found, reach_none}
-use borrow.Author.Rules.{rules}
 use Rattle.engine_wellformed.proofs.reach_set.Goals as goal
 
 pub returns-then-t-le-MAX_SERVICES : goal.returns-then-t-le-MAX_SERVICES

@@ -1,5 +1,4 @@
 -- `times_in_range` meets its contract: by the tests that it calls.
-use borrow.Author.Rules.{rules}
 use Rattle.engine_wellformed.proofs.times_in_range.Goals as goal
 
 pub returns : goal.returns

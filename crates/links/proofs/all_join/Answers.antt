@@ -1,8 +1,5 @@
 -- `all_join` meets its contract: the set gathered so far is safe, whatever the stack holds.
-use borrow.Author.Rules.{rules}
-use Prim.Native.Nat.{◌*◌, ◌-◌}
-use Rattle.links.specs.Rows.{rows_as}
-use Rattle.links.proofs.Descent.{Grounded, grounded_none, grounded_more, all_joined, not_joined}
+use Rattle.links.proofs.Descent.{grounded_none, grounded_more, all_joined, not_joined}
 use Rattle.links.proofs.all_join.Goals as goal
 
 pub loop-k-init : goal.loop-k-init

@@ -1,7 +1,6 @@
-use borrow.Author.Rules.{rules}
 use Prim.Native.Nat.{◌*◌, ◌-◌}
 use Rattle.links.specs.Rows.{rows_as}
-use Rattle.links.proofs.Descent.{Grounded, grounded_none, grounded_more, all_joined, not_joined}
+use Rattle.links.proofs.Descent.{Grounded}
 use Rattle.links.proofs.all_join.Given as goal
 
 abbrev pub invariant-loop-k : goal.invariant-loop-k

@@ -1,6 +1,5 @@
 -- `grow` meets its contract: the set of i alone joins.
 use borrow.Author.Tests.{lt-ltb}
-use borrow.Author.Rules.{rules}
 use Rattle.links.proofs.grow.Goals as goal
 
 pub returns : goal.returns

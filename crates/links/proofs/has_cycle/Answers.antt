@@ -2,7 +2,6 @@
 use borrow.Author.Tests.{lt-leb}
 use Rattle.links.proofs.Rounds.{rounds_answer}
 use Rattle.links.proofs.Descent.{joined_acyclic}
-use borrow.Author.Rules.{rules}
 use Rattle.links.proofs.has_cycle.Goals as goal
 
 pub returns-then-all_join : goal.returns-then-all_join

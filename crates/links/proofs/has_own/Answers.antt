@@ -1,9 +1,5 @@
 -- `has_own` meets its contract: some number below i is in its own row, or none.
-use borrow.Author.Rules.{rules}
-use Prim.Native.Nat.{◌-◌}
-use Rattle.base.specs.Sets.{has_bit}
-use Rattle.base.proofs.Loops.{Some, folded_none, some_more, some_all}
-use Rattle.links.specs.Rows.{rows_as}
+use Rattle.base.proofs.Loops.{folded_none, some_more, some_all}
 use Rattle.links.proofs.has_own.Goals as goal
 
 pub loop-i-init : goal.loop-i-init

@@ -1,7 +1,6 @@
-use borrow.Author.Rules.{rules}
 use Prim.Native.Nat.{◌-◌}
 use Rattle.base.specs.Sets.{has_bit}
-use Rattle.base.proofs.Loops.{Some, folded_none, some_more, some_all}
+use Rattle.base.proofs.Loops.{Some}
 use Rattle.links.specs.Rows.{rows_as}
 use Rattle.links.proofs.has_own.Given as goal
 

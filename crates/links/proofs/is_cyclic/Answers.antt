@@ -1,6 +1,5 @@
 -- `is_cyclic` meets its contract: a number on a cycle reaches itself.
 use Rattle.links.proofs.Rounds.{own_cyclic}
-use borrow.Author.Rules.{rules}
 use Rattle.links.proofs.is_cyclic.Goals as goal
 
 pub returns : goal.returns

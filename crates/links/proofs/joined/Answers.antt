@@ -1,5 +1,4 @@
 -- `joined` meets its contract: by the bit asked.
-use borrow.Author.Rules.{rules}
 use Rattle.links.proofs.joined.Goals as goal
 
 pub returns-then-has_bit : goal.returns-then-has_bit

@@ -1,6 +1,5 @@
 -- `reach_of` meets its contract: what the row of s spreads to, where there is one.
 use Rattle.links.proofs.Rounds.{row_reached, row_past, row_none}
-use borrow.Author.Rules.{rules}
 use Rattle.links.proofs.reach_of.Goals as goal
 
 pub returns-then-s-n : goal.returns-then-s-n

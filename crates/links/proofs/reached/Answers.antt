@@ -1,8 +1,5 @@
 -- `reached` meets its contract: k rounds are done.
-use borrow.Author.Rules.{rules}
-use Prim.Native.Nat.{◌-◌}
-use Rattle.links.specs.Rows.{rows_as}
-use Rattle.links.proofs.Rounds.{Reaching, reaching_none, reaching_more, reaching_all}
+use Rattle.links.proofs.Rounds.{reaching_none, reaching_more, reaching_all}
 use Rattle.links.proofs.reached.Goals as goal
 
 pub loop-k-init : goal.loop-k-init

@@ -1,7 +1,6 @@
-use borrow.Author.Rules.{rules}
 use Prim.Native.Nat.{◌-◌}
 use Rattle.links.specs.Rows.{rows_as}
-use Rattle.links.proofs.Rounds.{Reaching, reaching_none, reaching_more, reaching_all}
+use Rattle.links.proofs.Rounds.{Reaching}
 use Rattle.links.proofs.reached.Given as goal
 
 abbrev pub invariant-loop-k : goal.invariant-loop-k

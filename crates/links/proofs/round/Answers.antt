@@ -1,7 +1,5 @@
 -- `round` meets its contract: the rows below i are changed.
-use borrow.Author.Rules.{rules}
-use Prim.Native.Nat.{◌-◌}
-use Rattle.links.proofs.Rounds.{Rounding, rounding_none, rounding_more, rounding_all}
+use Rattle.links.proofs.Rounds.{rounding_none, rounding_more, rounding_all}
 use Rattle.links.proofs.round.Goals as goal
 
 pub loop-i-init : goal.loop-i-init

@@ -1,6 +1,5 @@
-use borrow.Author.Rules.{rules}
 use Prim.Native.Nat.{◌-◌}
-use Rattle.links.proofs.Rounds.{Rounding, rounding_none, rounding_more, rounding_all}
+use Rattle.links.proofs.Rounds.{Rounding}
 use Rattle.links.proofs.round.Given as goal
 
 abbrev pub invariant-loop-i : goal.invariant-loop-i

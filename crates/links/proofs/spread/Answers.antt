@@ -1,10 +1,6 @@
 -- `spread` meets its contract: a set of what s reaches, which holds its row.
-use borrow.Author.Rules.{rules}
-use Prim.Native.Nat.{◌-◌}
 use mathlib.Core.Path.{refl}
-use Rattle.base.specs.Links.{reach}
-use Rattle.links.specs.Rows.{rows_as}
-use Rattle.links.proofs.Spreading.{Spreading, spreading_none, spreading_more, spreading_less, spreading_all}
+use Rattle.links.proofs.Spreading.{spreading_none, spreading_more, spreading_less, spreading_all}
 use Rattle.links.proofs.spread.Goals as goal
 
 pub loop-m-init : goal.loop-m-init

@@ -1,9 +1,7 @@
-use borrow.Author.Rules.{rules}
 use Prim.Native.Nat.{◌-◌}
-use mathlib.Core.Path.{refl}
 use Rattle.base.specs.Links.{reach}
 use Rattle.links.specs.Rows.{rows_as}
-use Rattle.links.proofs.Spreading.{Spreading, spreading_none, spreading_more, spreading_less, spreading_all}
+use Rattle.links.proofs.Spreading.{Spreading}
 use Rattle.links.proofs.spread.Given as goal
 
 abbrev pub invariant-loop-m : goal.invariant-loop-m

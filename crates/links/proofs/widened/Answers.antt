@@ -1,9 +1,5 @@
 -- `widened` meets its contract: the numbers below i have brought in their links.
-use borrow.Author.Rules.{rules}
-use Prim.Native.Nat.{◌-◌}
-use Rattle.base.specs.Links.{through}
-use Rattle.base.proofs.Loops.{Folded, folded_none, folded_more, folded_all}
-use Rattle.links.specs.Rows.{rows_as}
+use Rattle.base.proofs.Loops.{folded_none, folded_more, folded_all}
 use Rattle.links.proofs.widened.Goals as goal
 
 pub loop-i-init : goal.loop-i-init

@@ -1,7 +1,6 @@
-use borrow.Author.Rules.{rules}
 use Prim.Native.Nat.{◌-◌}
 use Rattle.base.specs.Links.{through}
-use Rattle.base.proofs.Loops.{Folded, folded_none, folded_more, folded_all}
+use Rattle.base.proofs.Loops.{Folded}
 use Rattle.links.specs.Rows.{rows_as}
 use Rattle.links.proofs.widened.Given as goal
 

@@ -1,6 +1,5 @@
 -- `command_line` meets its contract.
 use mathlib.Core.Path.{◌∙◌}
-use borrow.Author.Rules.{rules}
 use Rattle.load_description.proofs.command_line.Goals as goal
 
 pub returns-then-good : goal.returns-then-good

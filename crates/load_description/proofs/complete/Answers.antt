@@ -1,6 +1,5 @@
 -- `complete` meets its contract.
 use Rattle.load_description.specs.Texts.{completion}
-use borrow.Author.Rules.{rules}
 use Rattle.load_description.proofs.complete.Goals as goal
 
 pub returns-then-missing : goal.returns-then-missing

@@ -5,7 +5,6 @@ use Prim.Native.Nat.{ℕ}
 use Rattle.load_text.specs.Strings.{same}
 use Rattle.load_value.proofs.Writing.{puts_part}
 use Rattle.load_description.proofs.Words.{links_as, word_at_fits}
-use borrow.Author.Rules.{rules}
 use Rattle.load_description.proofs.is_dependency.Goals as goal
 
 pub returns-then-alike : goal.returns-then-alike

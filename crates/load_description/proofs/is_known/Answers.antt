@@ -1,10 +1,8 @@
 -- `is_known` meets its contract: a loop over the places of dependencies that are taken.
-use Prim.Native.Nat.{◌-◌}
 use mathlib.Core.Path.{◌∙◌, ap}
-use Rattle.base.proofs.Loops.{Some, folded_none, some_more, some_all}
+use Rattle.base.proofs.Loops.{folded_none, some_more, some_all}
 use Rattle.base.specs.Folds.{some}
-use Rattle.load_description.specs.Settings.{dependency_at, is_dependency, known}
-use borrow.Author.Rules.{rules}
+use Rattle.load_description.specs.Settings.{known}
 use Rattle.load_description.proofs.is_known.Goals as goal
 
 pub loop-k-init : goal.loop-k-init

@@ -1,9 +1,6 @@
 use Prim.Native.Nat.{◌-◌}
-use mathlib.Core.Path.{◌∙◌, ap}
-use Rattle.base.proofs.Loops.{Some, folded_none, some_more, some_all}
-use Rattle.base.specs.Folds.{some}
-use Rattle.load_description.specs.Settings.{dependency_at, is_dependency, known}
-use borrow.Author.Rules.{rules}
+use Rattle.base.proofs.Loops.{Some}
+use Rattle.load_description.specs.Settings.{dependency_at, is_dependency}
 use Rattle.load_description.proofs.is_known.Given as goal
 
 abbrev pub invariant-loop-k : goal.invariant-loop-k

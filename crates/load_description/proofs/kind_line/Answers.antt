@@ -1,6 +1,5 @@
 -- `kind_line` meets its contract.
 use mathlib.Core.Path.{◌∙◌}
-use borrow.Author.Rules.{rules}
 use Rattle.load_description.proofs.kind_line.Goals as goal
 
 pub returns-in_default : goal.returns-in_default

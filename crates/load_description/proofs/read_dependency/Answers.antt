@@ -1,7 +1,6 @@
 -- `read_dependency` meets its contract.
 use mathlib.Core.Path.{sym, ◌∙◌}
 use Rattle.load_description.specs.Lines.{dependency_read}
-use borrow.Author.Rules.{rules}
 use Rattle.load_description.proofs.read_dependency.Goals as goal
 
 pub returns-then-repeated : goal.returns-then-repeated

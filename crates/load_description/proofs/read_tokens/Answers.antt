@@ -6,7 +6,6 @@ use Rattle.load_value.proofs.Scans.{word_fits}
 use Rattle.load_value.proofs.Writing.{puts_part}
 use Rattle.load_description.specs.Lines.{word_read, tokens_read}
 use Rattle.load_description.proofs.Words.{single_read_lem}
-use borrow.Author.Rules.{rules}
 use borrow.Enum.Refused.{opened}
 use Rattle.load_description.proofs.read_tokens.Goals as goal
 

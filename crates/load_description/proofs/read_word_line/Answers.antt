@@ -1,7 +1,6 @@
 -- `read_word_line` meets its contract, property by property.
 use mathlib.Core.Path.{sym, ◌∙◌}
 use Rattle.load_description.specs.Lines.{word_read}
-use borrow.Author.Rules.{rules}
 use Rattle.load_description.proofs.read_word_line.Goals as goal
 
 -- a dependency, and a word that is no name

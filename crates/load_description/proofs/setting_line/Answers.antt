@@ -1,6 +1,5 @@
 -- `setting_line` meets its contract.
 use mathlib.Core.Path.{◌∙◌}
-use borrow.Author.Rules.{rules}
 use Rattle.load_description.proofs.setting_line.Goals as goal
 
 pub returns-in-To : goal.returns-in-To

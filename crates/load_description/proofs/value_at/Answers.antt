@@ -2,7 +2,6 @@
 use mathlib.Core.Path.{◌∙◌}
 use Rattle.load_text.proofs.Lines.{line_part_any}
 use Rattle.load_description.specs.Settings.{value_at}
-use borrow.Author.Rules.{rules}
 use Rattle.load_description.proofs.value_at.Goals as goal
 
 pub returns : goal.returns

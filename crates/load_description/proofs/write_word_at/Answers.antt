@@ -1,6 +1,5 @@
 -- `write_word_at` meets its contract.
 use Rattle.load_description.specs.Settings.{word_at}
-use borrow.Author.Rules.{rules}
 use Rattle.load_description.proofs.write_word_at.Goals as goal
 
 pub returns : goal.returns

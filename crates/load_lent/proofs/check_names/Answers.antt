@@ -1,8 +1,5 @@
 -- `check_names` meets its contract: what is left of the names.
-use Prim.Native.Nat.{◌-◌}
-use Rattle.load_lent.specs.Parts.{name_at}
-use Rattle.load_lent.proofs.Laws.{NamesLeft, names_none, names_bad, names_twice, names_good, names_all}
-use borrow.Author.Rules.{rules}
+use Rattle.load_lent.proofs.Laws.{names_none, names_bad, names_twice, names_good, names_all}
 use Rattle.load_lent.proofs.check_names.Goals as goal
 
 pub loop-j-init : goal.loop-j-init

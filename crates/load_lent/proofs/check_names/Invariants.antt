@@ -1,7 +1,6 @@
 use Prim.Native.Nat.{◌-◌}
 use Rattle.load_lent.specs.Parts.{name_at}
-use Rattle.load_lent.proofs.Laws.{NamesLeft, names_none, names_bad, names_twice, names_good, names_all}
-use borrow.Author.Rules.{rules}
+use Rattle.load_lent.proofs.Laws.{NamesLeft}
 use Rattle.load_lent.proofs.check_names.Given as goal
 
 abbrev pub invariant-loop-j : goal.invariant-loop-j

@@ -1,8 +1,5 @@
 -- `check_sizes` meets its contract: what is left of the texts, with the total before them.
-use Prim.Native.Nat.{◌-◌}
-use Rattle.load_lent.specs.Parts.{text_at}
-use Rattle.load_lent.proofs.Laws.{SizesLeft, sizes_none, sizes_long, sizes_many, sizes_fit, sizes_all}
-use borrow.Author.Rules.{rules}
+use Rattle.load_lent.proofs.Laws.{sizes_none, sizes_long, sizes_many, sizes_fit, sizes_all}
 use Rattle.load_lent.proofs.check_sizes.Goals as goal
 
 pub loop-j-init : goal.loop-j-init

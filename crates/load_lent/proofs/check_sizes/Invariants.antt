@@ -1,7 +1,6 @@
 use Prim.Native.Nat.{◌-◌}
 use Rattle.load_lent.specs.Parts.{text_at}
-use Rattle.load_lent.proofs.Laws.{SizesLeft, sizes_none, sizes_long, sizes_many, sizes_fit, sizes_all}
-use borrow.Author.Rules.{rules}
+use Rattle.load_lent.proofs.Laws.{SizesLeft}
 use Rattle.load_lent.proofs.check_sizes.Given as goal
 
 abbrev pub invariant-loop-j : goal.invariant-loop-j

@@ -1,11 +1,8 @@
 -- `find_among` meets its contract: a search that has passed i names.
-use Prim.Native.Nat.{◌-◌}
 use mathlib.Core.Path.{ap, ◌∙◌}
-use Rattle.base.proofs.Loops.{Passed, passed_none, passed_more, passed_hit, passed_all}
+use Rattle.base.proofs.Loops.{passed_none, passed_more, passed_hit, passed_all}
 use Rattle.load_text.specs.Strings.{same}
-use Rattle.load_lent.specs.Parts.{name_at}
 use Rattle.load_lent.specs.Checks.{find}
-use borrow.Author.Rules.{rules}
 use Rattle.load_lent.proofs.find_among.Goals as goal
 
 pub returns-then-same_bytes : goal.returns-then-same_bytes

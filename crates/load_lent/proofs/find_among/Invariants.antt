@@ -1,10 +1,7 @@
 use Prim.Native.Nat.{◌-◌}
-use mathlib.Core.Path.{ap, ◌∙◌}
-use Rattle.base.proofs.Loops.{Passed, passed_none, passed_more, passed_hit, passed_all}
+use Rattle.base.proofs.Loops.{Passed}
 use Rattle.load_text.specs.Strings.{same}
 use Rattle.load_lent.specs.Parts.{name_at}
-use Rattle.load_lent.specs.Checks.{find}
-use borrow.Author.Rules.{rules}
 use Rattle.load_lent.proofs.find_among.Given as goal
 
 abbrev pub invariant-loop-i : goal.invariant-loop-i

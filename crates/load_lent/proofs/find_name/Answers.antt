@@ -1,5 +1,4 @@
 -- `find_name` meets its contract: the search among as many names as there are.
-use borrow.Author.Rules.{rules}
 use mathlib.Core.Path.{◌∙◌}
 use Rattle.load_lent.proofs.find_name.Goals as goal
 

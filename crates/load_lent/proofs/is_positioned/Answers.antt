@@ -1,13 +1,12 @@
 -- `is_positioned` meets its contract: what is left of the positions rises from the last one.
-use Prim.Native.Nat.{◌-◌, ◌%◌}
-use mathlib.Core.Path.{◌≡◌, refl, sym, ap, ◌∙◌}
+use Prim.Native.Nat.{◌%◌}
+use mathlib.Core.Path.{refl, sym, ap, ◌∙◌}
 use mathlib.Core.Bool.{◌&&◌}
 use lib.Dec.{eqb}
-use lib.ListN.{length, drop}
+use lib.ListN.{length}
 use Rattle.base.proofs.Tests.{and_none}
-use Rattle.load_lent.specs.Parts.{rises_to, positioned}
+use Rattle.load_lent.specs.Parts.{positioned}
 use Rattle.load_lent.proofs.Laws.{rises_end, rises_next}
-use borrow.Author.Rules.{rules}
 use Rattle.load_lent.proofs.is_positioned.Goals as goal
 
 pub loop-i-preserved : goal.loop-i-preserved

@@ -1,12 +1,7 @@
-use Prim.Native.Nat.{◌-◌, ◌%◌}
-use mathlib.Core.Path.{◌≡◌, refl, sym, ap, ◌∙◌}
-use mathlib.Core.Bool.{◌&&◌}
-use lib.Dec.{eqb}
+use Prim.Native.Nat.{◌-◌}
+use mathlib.Core.Path.{◌≡◌}
 use lib.ListN.{length, drop}
-use Rattle.base.proofs.Tests.{and_none}
-use Rattle.load_lent.specs.Parts.{rises_to, positioned}
-use Rattle.load_lent.proofs.Laws.{rises_end, rises_next}
-use borrow.Author.Rules.{rules}
+use Rattle.load_lent.specs.Parts.{rises_to}
 use Rattle.load_lent.proofs.is_positioned.Given as goal
 
 abbrev pub invariant-loop-i : goal.invariant-loop-i

@@ -2,7 +2,6 @@
 use mathlib.Core.Path.{◌∙◌}
 use Rattle.load_lent.specs.Parts.{name_at}
 use Rattle.load_lent.proofs.Laws.{past_last}
-use borrow.Author.Rules.{rules}
 use Rattle.load_lent.proofs.name_at.Goals as goal
 
 pub returns-then-j-ends : goal.returns-then-j-ends

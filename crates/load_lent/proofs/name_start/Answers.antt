@@ -2,7 +2,6 @@
 use mathlib.Core.Path.{◌∙◌}
 use borrow.Author.Tests.{eq-eqb, ne_eqb}
 use Rattle.load_lent.specs.Parts.{name_start}
-use borrow.Author.Rules.{rules}
 use Rattle.load_lent.proofs.name_start.Goals as goal
 
 pub returns-then-j-eq0 : goal.returns-then-j-eq0

@@ -1,7 +1,6 @@
 -- `position` meets its contract: past the end the default stands.
 use mathlib.Core.Path.{sym}
 use lib.ListN.{get_or-eq_default}
-use borrow.Author.Rules.{rules}
 use Rattle.load_lent.proofs.position.Goals as goal
 
 pub returns-else-i-ends : goal.returns-else-i-ends

@@ -1,5 +1,4 @@
 -- `refused_in` meets its contract.
-use borrow.Author.Rules.{rules}
 use mathlib.Core.Path.{◌∙◌}
 use Rattle.load_lent.proofs.Laws.{refused_absent, refused_decided}
 use Rattle.load_lent.proofs.refused_in.Goals as goal

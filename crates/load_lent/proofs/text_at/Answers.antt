@@ -2,7 +2,6 @@
 use mathlib.Core.Path.{◌∙◌}
 use Rattle.load_lent.specs.Parts.{text_at}
 use Rattle.load_lent.proofs.Laws.{past_last, past_even}
-use borrow.Author.Rules.{rules}
 use Rattle.load_lent.proofs.text_at.Goals as goal
 
 pub returns-then-j-ends-2 : goal.returns-then-j-ends-2

@@ -3,7 +3,6 @@ use mathlib.Core.Path.{◌∙◌}
 use Rattle.load_value.proofs.Writing.{puts_part}
 use Rattle.load_description.proofs.Words.{word_at_fits}
 use Rattle.load_links.proofs.Laws.{word_found}
-use borrow.Author.Rules.{rules}
 use Rattle.load_links.proofs.find_word.Goals as goal
 
 pub returns : goal.returns

@@ -1,10 +1,5 @@
 -- `first_own` meets its contract: the numbers passed do not reach themselves.
-use borrow.Author.Rules.{rules}
-use Prim.Native.Nat.{◌-◌}
-use Rattle.base.specs.Sets.{has_bit}
-use Rattle.base.specs.Links.{reach}
-use Rattle.base.proofs.Loops.{Passed, passed_none, passed_all}
-use Rattle.links.specs.Rows.{rows_as}
+use Rattle.base.proofs.Loops.{passed_none, passed_all}
 use Rattle.load_links.proofs.Cycles.{own_hit, own_more}
 use Rattle.load_links.proofs.first_own.Goals as goal
 

@@ -1,10 +1,8 @@
-use borrow.Author.Rules.{rules}
 use Prim.Native.Nat.{◌-◌}
 use Rattle.base.specs.Sets.{has_bit}
 use Rattle.base.specs.Links.{reach}
-use Rattle.base.proofs.Loops.{Passed, passed_none, passed_all}
+use Rattle.base.proofs.Loops.{Passed}
 use Rattle.links.specs.Rows.{rows_as}
-use Rattle.load_links.proofs.Cycles.{own_hit, own_more}
 use Rattle.load_links.proofs.first_own.Given as goal
 
 abbrev pub invariant-loop-s : goal.invariant-loop-s

@@ -1,10 +1,6 @@
 -- `link_rows` meets its contract: the rows below i are filled.
-use borrow.Author.Rules.{rules}
-use Prim.Native.Nat.{◌-◌}
 use mathlib.Core.Path.{refl}
-use Rattle.base.proofs.Filled.{Filling, filling_none, filling_all}
-use Rattle.service.specs.Limits.{max_services}
-use Rattle.load_links.specs.Links.{links_at}
+use Rattle.base.proofs.Filled.{filling_none, filling_all}
 use Rattle.load_links.proofs.Cycles.{rows_more}
 use Rattle.load_links.proofs.link_rows.Goals as goal
 

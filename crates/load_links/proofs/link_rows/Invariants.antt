@@ -1,10 +1,7 @@
-use borrow.Author.Rules.{rules}
 use Prim.Native.Nat.{◌-◌}
-use mathlib.Core.Path.{refl}
-use Rattle.base.proofs.Filled.{Filling, filling_none, filling_all}
+use Rattle.base.proofs.Filled.{Filling}
 use Rattle.service.specs.Limits.{max_services}
 use Rattle.load_links.specs.Links.{links_at}
-use Rattle.load_links.proofs.Cycles.{rows_more}
 use Rattle.load_links.proofs.link_rows.Given as goal
 
 abbrev pub invariant-loop-i : goal.invariant-loop-i

@@ -1,5 +1,4 @@
 -- `lowest_cyclic` meets its contract.
-use borrow.Author.Rules.{rules}
 use Rattle.load_links.proofs.Cycles.{lowest_found, lowest_none, lowest_past}
 use Rattle.load_links.proofs.lowest_cyclic.Goals as goal
 

@@ -1,8 +1,5 @@
 -- `make` meets its contract: what is left of the services, with the settings made so far.
-use Prim.Native.Nat.{◌-◌}
-use Rattle.load_lent.specs.Parts.{name_at, text_at}
-use Rattle.load_links.proofs.Laws.{Made, made_none, made_more, made_absent, made_all}
-use borrow.Author.Rules.{rules}
+use Rattle.load_links.proofs.Laws.{made_none, made_more, made_absent, made_all}
 use Rattle.load_links.proofs.make.Goals as goal
 
 pub loop-j-init : goal.loop-j-init

@@ -1,7 +1,6 @@
 use Prim.Native.Nat.{◌-◌}
 use Rattle.load_lent.specs.Parts.{name_at, text_at}
-use Rattle.load_links.proofs.Laws.{Made, made_none, made_more, made_absent, made_all}
-use borrow.Author.Rules.{rules}
+use Rattle.load_links.proofs.Laws.{Made}
 use Rattle.load_links.proofs.make.Given as goal
 
 abbrev pub invariant-loop-j : goal.invariant-loop-j

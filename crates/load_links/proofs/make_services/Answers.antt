@@ -1,5 +1,4 @@
 -- `make_services` meets its contract.
-use borrow.Author.Rules.{rules}
 use Rattle.load_links.proofs.Laws.{services_in_lem, services_many}
 use Rattle.load_links.proofs.make_services.Goals as goal
 

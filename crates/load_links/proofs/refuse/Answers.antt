@@ -1,5 +1,4 @@
 -- `refuse` meets its contract.
-use borrow.Author.Rules.{rules}
 use Rattle.load_links.proofs.refuse.Goals as goal
 
 pub returns-in-Good : goal.returns-in-Good

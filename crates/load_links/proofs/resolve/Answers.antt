@@ -1,8 +1,5 @@
 -- `resolve` meets its contract: what is left of the dependencies, with the links made so far.
-use Prim.Native.Nat.{◌-◌}
-use Rattle.load_lent.specs.Parts.{name_at}
-use Rattle.load_links.proofs.Laws.{Linking, linking_many, linking_none, linking_more, linking_absent, linking_all}
-use borrow.Author.Rules.{rules}
+use Rattle.load_links.proofs.Laws.{linking_many, linking_none, linking_more, linking_absent, linking_all}
 use Rattle.load_links.proofs.resolve.Goals as goal
 
 pub loop-k-init : goal.loop-k-init

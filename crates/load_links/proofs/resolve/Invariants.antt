@@ -1,7 +1,6 @@
 use Prim.Native.Nat.{◌-◌}
 use Rattle.load_lent.specs.Parts.{name_at}
-use Rattle.load_links.proofs.Laws.{Linking, linking_many, linking_none, linking_more, linking_absent, linking_all}
-use borrow.Author.Rules.{rules}
+use Rattle.load_links.proofs.Laws.{Linking}
 use Rattle.load_links.proofs.resolve.Given as goal
 
 abbrev pub invariant-loop-k : goal.invariant-loop-k

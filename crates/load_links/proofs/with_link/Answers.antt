@@ -1,6 +1,5 @@
 -- `with_link` meets its contract.
 use Rattle.load_links.proofs.Laws.{one_link}
-use borrow.Author.Rules.{rules}
 use Rattle.load_links.proofs.with_link.Goals as goal
 
 pub returns-in-DependsOn : goal.returns-in-DependsOn

@@ -1,6 +1,5 @@
 -- `affect` meets its contract, effect by effect.
 use mathlib.Core.Path.{◌∙◌}
-use borrow.Author.Rules.{rules}
 use Rattle.load_reader.proofs.affect.Goals as goal
 
 pub returns-in-Nothing : goal.returns-in-Nothing

@@ -1,5 +1,4 @@
 -- `ended` meets its contract.
-use borrow.Author.Rules.{rules}
 use Rattle.load_reader.proofs.ended.Goals as goal
 
 pub returns-in-Good : goal.returns-in-Good

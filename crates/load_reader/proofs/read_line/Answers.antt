@@ -1,6 +1,5 @@
 -- `read_line` meets its contract, by how the line begins.
 use Rattle.load_reader.proofs.Properties.{from_inside, value_inside, opening_fits, property_told}
-use borrow.Author.Rules.{rules}
 use Rattle.load_reader.proofs.read_line.Goals as goal
 
 pub read_property-requires : goal.read_property-requires

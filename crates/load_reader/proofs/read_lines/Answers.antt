@@ -1,8 +1,7 @@
 -- `read_lines` meets its contract: what the lines that are left make of the settings so far.
 use native.Mathlib.Omega.{arith}
-use Prim.Native.Nat.{◌-◌, ◌<◌}
-use lib.ListN.{length}
-use Rattle.load_reader.proofs.Laws.{Reached, reached_none, reached_few, reached_end, reached_silent, reached_good, reached_bad}
+use Prim.Native.Nat.{◌<◌}
+use Rattle.load_reader.proofs.Laws.{reached_none, reached_few, reached_end, reached_silent, reached_good, reached_bad}
 use Rattle.load_reader.proofs.Laws.{end_inside, less_left, line_inside, opened_inside}
 use borrow.Author.Rules.{rules}
 use Rattle.load_reader.proofs.read_lines.Goals as goal

@@ -2,7 +2,6 @@
 use mathlib.Core.Path.{sym, ◌∙◌}
 use Rattle.load_description.specs.Lines.{property_read}
 use Rattle.load_reader.proofs.Properties.{seen_fits, fault_fits, tokens_told, fault_told}
-use borrow.Author.Rules.{rules}
 use Rattle.load_reader.proofs.read_property.Goals as goal
 
 pub returns-then-unknown : goal.returns-then-unknown

@@ -1,7 +1,6 @@
 -- `read_text` meets its contract.
 use mathlib.Core.Path.{sym, ◌∙◌}
 use Rattle.load_description.specs.Texts.{text_read}
-use borrow.Author.Rules.{rules}
 use Rattle.load_reader.proofs.read_text.Goals as goal
 
 pub returns-in_default : goal.returns-in_default

@@ -1,7 +1,6 @@
 -- `with_command` meets its contract: a stop-command is noted in the settings too.
 use Rattle.service.specs.Numbers.{settings_from}
 use Rattle.service.proofs.Numbering.{kind_back, signal_back, flag_back}
-use borrow.Author.Rules.{rules}
 use Rattle.load_reader.proofs.with_command.Goals as goal
 
 pub returns-in-Start : goal.returns-in-Start

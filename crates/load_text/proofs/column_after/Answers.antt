@@ -1,8 +1,5 @@
 -- `column_after` meets its contract: the column after what is left, from the column so far.
-use mathlib.Core.Path.{◌≡◌, refl, sym, ◌∙◌}
-use Prim.Native.Nat.{◌+◌, ◌≤◌, ◌-◌}
-use lib.ListN.{length, drop}
-use Rattle.load_text.specs.Lines.{column_from}
+use mathlib.Core.Path.{refl, sym, ◌∙◌}
 use Rattle.load_text.proofs.Runs.{column_end, column_next}
 use borrow.Author.Rules.{rules}
 use Rattle.load_text.proofs.column_after.Goals as goal

@@ -1,9 +1,7 @@
-use mathlib.Core.Path.{◌≡◌, refl, sym, ◌∙◌}
+use mathlib.Core.Path.{◌≡◌}
 use Prim.Native.Nat.{◌+◌, ◌≤◌, ◌-◌}
 use lib.ListN.{length, drop}
 use Rattle.load_text.specs.Lines.{column_from}
-use Rattle.load_text.proofs.Runs.{column_end, column_next}
-use borrow.Author.Rules.{rules}
 use Rattle.load_text.proofs.column_after.Given as goal
 
 abbrev pub invariant-loop-i : goal.invariant-loop-i

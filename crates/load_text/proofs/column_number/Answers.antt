@@ -3,7 +3,6 @@ use mathlib.Core.Path.{ap, ◌∙◌}
 use mathlib.Core.List.{List}
 use Prim.Native.Nat.{ℕ}
 use Rattle.load_text.specs.Lines.{column_from, column_number}
-use borrow.Author.Rules.{rules}
 use Rattle.load_text.proofs.column_number.Goals as goal
 
 pub returns : goal.returns

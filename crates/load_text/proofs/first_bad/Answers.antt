@@ -1,8 +1,5 @@
 -- `first_bad` meets its contract: both loops keep that what is left decides, and the label carries what a bad byte or the end decides.
-use mathlib.Core.Path.{◌≡◌, refl, sym, ◌∙◌}
-use Prim.Native.Nat.{◌≤◌, ◌-◌}
-use lib.ListN.{length, drop}
-use Rattle.load_text.specs.Lines.{bad_from}
+use mathlib.Core.Path.{refl, sym, ◌∙◌}
 use Rattle.load_text.proofs.Runs.{bad_end, bad_next}
 use borrow.Author.Rules.{rules}
 use Rattle.load_text.proofs.first_bad.Goals as goal

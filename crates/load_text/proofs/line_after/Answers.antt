@@ -1,8 +1,5 @@
 -- `line_after` meets its contract: the line after what is left, from the line so far.
-use mathlib.Core.Path.{◌≡◌, refl, sym, ◌∙◌}
-use Prim.Native.Nat.{◌+◌, ◌≤◌, ◌-◌}
-use lib.ListN.{length, drop}
-use Rattle.load_text.specs.Lines.{line_from}
+use mathlib.Core.Path.{refl, sym, ◌∙◌}
 use Rattle.load_text.proofs.Runs.{line_end, line_next}
 use borrow.Author.Rules.{rules}
 use Rattle.load_text.proofs.line_after.Goals as goal

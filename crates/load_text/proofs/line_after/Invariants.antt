@@ -1,9 +1,7 @@
-use mathlib.Core.Path.{◌≡◌, refl, sym, ◌∙◌}
+use mathlib.Core.Path.{◌≡◌}
 use Prim.Native.Nat.{◌+◌, ◌≤◌, ◌-◌}
 use lib.ListN.{length, drop}
 use Rattle.load_text.specs.Lines.{line_from}
-use Rattle.load_text.proofs.Runs.{line_end, line_next}
-use borrow.Author.Rules.{rules}
 use Rattle.load_text.proofs.line_after.Given as goal
 
 abbrev pub invariant-loop-i : goal.invariant-loop-i

@@ -1,11 +1,8 @@
 -- `line_end` meets its contract: what is left of the line after e bytes.
 use native.Mathlib.Omega.{arith}
-use mathlib.Core.Path.{◌≡◌, refl, ap}
-use Prim.Native.Nat.{◌+◌, ◌-◌}
-use lib.ListN.{length, drop}
-use Rattle.load_text.specs.Lines.{line_of}
+use mathlib.Core.Path.{refl, ap}
+use lib.ListN.{length}
 use Rattle.load_text.proofs.Lines.{line_none, line_more}
-use borrow.Author.Rules.{rules}
 use Rattle.load_text.proofs.line_end.Goals as goal
 
 pub loop-e-init : goal.loop-e-init

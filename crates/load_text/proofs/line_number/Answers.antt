@@ -3,7 +3,6 @@ use mathlib.Core.Path.{ap, ◌∙◌}
 use mathlib.Core.List.{List}
 use Prim.Native.Nat.{ℕ}
 use Rattle.load_text.specs.Lines.{line_from, line_number}
-use borrow.Author.Rules.{rules}
 use Rattle.load_text.proofs.line_number.Goals as goal
 
 pub returns : goal.returns

@@ -1,10 +1,7 @@
-use native.Mathlib.Omega.{arith}
-use mathlib.Core.Path.{◌≡◌, refl, sym, ◌∙◌}
+use mathlib.Core.Path.{◌≡◌}
 use Prim.Native.Nat.{◌+◌, ◌-◌}
 use lib.ListN.{length, drop}
 use Rattle.load_text.specs.Bytes.{is_property_byte, run}
-use Rattle.load_text.proofs.Runs.{run_end, run_next}
-use borrow.Author.Rules.{rules}
 use Rattle.load_text.proofs.name_end.Given as goal
 
 abbrev pub invariant-loop-e : goal.invariant-loop-e

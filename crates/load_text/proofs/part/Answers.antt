@@ -1,7 +1,6 @@
 -- `part` meets its contract: the two guards are those of the definition.
 use borrow.Author.Tests.{le-leb, lt-leb}
 use Rattle.load_text.specs.Strings.{part_of}
-use borrow.Author.Rules.{rules}
 use Rattle.load_text.proofs.part.Goals as goal
 
 pub returns-then-to-s : goal.returns-then-to-s

@@ -1,9 +1,6 @@
 -- `same_bytes` meets its contract: strings of one length are compared byte by byte.
 use borrow.Author.Tests.{eqb-true, eqb-false}
-use mathlib.Core.Path.{◌≡◌, refl, sym, ◌∙◌}
-use Prim.Native.Nat.{◌≤◌, ◌-◌}
-use lib.ListN.{length, drop}
-use Rattle.load_text.specs.Strings.{same}
+use mathlib.Core.Path.{refl, sym, ◌∙◌}
 use Rattle.load_text.proofs.Strings.{same_long, same_end, same_next}
 use borrow.Author.Rules.{rules}
 use Rattle.load_text.proofs.same_bytes.Goals as goal

@@ -1,10 +1,7 @@
-use borrow.Author.Tests.{eqb-true, eqb-false}
-use mathlib.Core.Path.{◌≡◌, refl, sym, ◌∙◌}
+use mathlib.Core.Path.{◌≡◌}
 use Prim.Native.Nat.{◌≤◌, ◌-◌}
 use lib.ListN.{length, drop}
 use Rattle.load_text.specs.Strings.{same}
-use Rattle.load_text.proofs.Strings.{same_long, same_end, same_next}
-use borrow.Author.Rules.{rules}
 use Rattle.load_text.proofs.same_bytes.Given as goal
 
 abbrev pub invariant-loop-i : goal.invariant-loop-i

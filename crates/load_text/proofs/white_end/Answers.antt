@@ -1,11 +1,8 @@
 -- `white_end` meets its contract: what is left of the white space after e bytes.
 use native.Mathlib.Omega.{arith}
-use mathlib.Core.Path.{◌≡◌, refl, sym, ◌∙◌}
-use Prim.Native.Nat.{◌+◌, ◌-◌}
-use lib.ListN.{length, drop}
-use Rattle.load_text.specs.Bytes.{is_white, run}
+use mathlib.Core.Path.{refl, sym, ◌∙◌}
+use Rattle.load_text.specs.Bytes.{is_white}
 use Rattle.load_text.proofs.Runs.{run_end, run_next}
-use borrow.Author.Rules.{rules}
 use Rattle.load_text.proofs.white_end.Goals as goal
 
 pub loop-e-init : goal.loop-e-init

@@ -1,7 +1,6 @@
 -- `bare_step` meets its contract, case by case.
 use mathlib.Core.Path.{sym, ◌∙◌}
 use Rattle.load_value.specs.Steps.{bare_step}
-use borrow.Author.Rules.{rules}
 use Rattle.load_value.proofs.bare_step.Goals as goal
 
 pub returns-then-m : goal.returns-then-m

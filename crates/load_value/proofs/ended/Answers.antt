@@ -1,5 +1,4 @@
 -- `ended` meets its contract, case by case.
-use borrow.Author.Rules.{rules}
 use Rattle.load_value.proofs.ended.Goals as goal
 
 pub returns-then-m : goal.returns-then-m

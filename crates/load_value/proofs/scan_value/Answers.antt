@@ -1,8 +1,5 @@
 -- `scan_value` meets its contract: the answer for what is left, from what was read so far.
-use Prim.Native.Nat.{◌-◌}
-use lib.ListN.{length}
-use Rattle.load_value.proofs.Loops.{Told, told_none, told_room, told_skip, told_quote, told_keep, told_close, told_bad, told_end}
-use borrow.Author.Rules.{rules}
+use Rattle.load_value.proofs.Loops.{told_none, told_room, told_skip, told_quote, told_keep, told_close, told_bad, told_end}
 use Rattle.load_value.proofs.scan_value.Goals as goal
 
 pub loop-i-init : goal.loop-i-init

@@ -1,7 +1,6 @@
 use Prim.Native.Nat.{◌-◌}
 use lib.ListN.{length}
-use Rattle.load_value.proofs.Loops.{Told, told_none, told_room, told_skip, told_quote, told_keep, told_close, told_bad, told_end}
-use borrow.Author.Rules.{rules}
+use Rattle.load_value.proofs.Loops.{Told}
 use Rattle.load_value.proofs.scan_value.Given as goal
 
 abbrev pub invariant-loop-i : goal.invariant-loop-i

@@ -1,7 +1,6 @@
 -- `step_at` meets its contract, case by case.
 use mathlib.Core.Path.{◌∙◌}
 use Rattle.load_value.specs.Steps.{step_of}
-use borrow.Author.Rules.{rules}
 use Rattle.load_value.proofs.step_at.Goals as goal
 
 pub returns-then-m : goal.returns-then-m

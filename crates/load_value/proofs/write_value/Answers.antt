@@ -1,9 +1,6 @@
 -- `write_value` meets its contract: what is left to write, from what was written so far.
-use Prim.Native.Nat.{◌-◌}
-use lib.ListN.{length}
-use Rattle.load_value.proofs.Loops.{Written, written_none, written_skip, written_quote, written_keep, written_close, written_bad}
+use Rattle.load_value.proofs.Loops.{written_none, written_skip, written_quote, written_keep, written_close, written_bad}
 use Rattle.load_value.proofs.Loops.{written_closed, written_all}
-use borrow.Author.Rules.{rules}
 use Rattle.load_value.proofs.write_value.Goals as goal
 
 pub loop-i-init : goal.loop-i-init

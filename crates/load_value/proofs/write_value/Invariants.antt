@@ -1,8 +1,6 @@
 use Prim.Native.Nat.{◌-◌}
 use lib.ListN.{length}
-use Rattle.load_value.proofs.Loops.{Written, written_none, written_skip, written_quote, written_keep, written_close, written_bad}
-use Rattle.load_value.proofs.Loops.{written_closed, written_all}
-use borrow.Author.Rules.{rules}
+use Rattle.load_value.proofs.Loops.{Written}
 use Rattle.load_value.proofs.write_value.Given as goal
 
 abbrev pub invariant-loop-i : goal.invariant-loop-i

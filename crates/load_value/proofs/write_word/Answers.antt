@@ -1,8 +1,5 @@
 -- `write_word` meets its contract: what is left to write, from what was written so far.
-use Prim.Native.Nat.{◌-◌}
-use lib.ListN.{length}
-use Rattle.load_value.proofs.Loops.{Worded, worded_none, worded_skip, worded_quote, worded_keep, worded_full, worded_close, worded_bad, worded_end}
-use borrow.Author.Rules.{rules}
+use Rattle.load_value.proofs.Loops.{worded_none, worded_skip, worded_quote, worded_keep, worded_full, worded_close, worded_bad, worded_end}
 use Rattle.load_value.proofs.write_word.Goals as goal
 
 pub loop-i-init : goal.loop-i-init

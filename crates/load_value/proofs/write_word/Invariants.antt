@@ -1,7 +1,6 @@
 use Prim.Native.Nat.{◌-◌}
 use lib.ListN.{length}
-use Rattle.load_value.proofs.Loops.{Worded, worded_none, worded_skip, worded_quote, worded_keep, worded_full, worded_close, worded_bad, worded_end}
-use borrow.Author.Rules.{rules}
+use Rattle.load_value.proofs.Loops.{Worded}
 use Rattle.load_value.proofs.write_word.Given as goal
 
 abbrev pub invariant-loop-i : goal.invariant-loop-i

@@ -1,7 +1,6 @@
 -- `advance` meets its contract.
 use mathlib.Core.Path.{sym, ◌∙◌}
 use Rattle.load_word.specs.Decimals.{read_of}
-use borrow.Author.Rules.{rules}
 use Rattle.load_word.proofs.advance.Goals as goal
 
 pub digit-requires : goal.digit-requires

@@ -5,7 +5,6 @@ use native.Mathlib.Numerals.{add-one}
 use borrow.Author.Tests.{ltb-true}
 use Rattle.load_word.specs.Decimals.{digit_of}
 use Rattle.load_word.proofs.Decimals.{digit_bounds, ten_digits, digit_more}
-use borrow.Author.Rules.{rules}
 use Rattle.load_word.proofs.digit.Goals as goal
 
 pub overflow_mul-value : goal.overflow_mul-value

@@ -1,9 +1,7 @@
 -- `find_place` meets its contract: the place among the names that are left.
-use mathlib.Core.Path.{◌≡◌, refl, sym, ap, ◌∙◌}
-use Prim.Native.Nat.{◌≤◌, ◌-◌}
-use lib.ListN.{drop, length}
-use Rattle.load_text.specs.Strings.{same, index_from}
-use Rattle.load_word.specs.Properties.{properties, property_names}
+use mathlib.Core.Path.{refl, sym, ap, ◌∙◌}
+use Rattle.load_text.specs.Strings.{same}
+use Rattle.load_word.specs.Properties.{property_names}
 use Rattle.load_text.proofs.Strings.{index_end, index_next, at_now}
 use borrow.Author.Rules.{rules}
 use Rattle.load_word.proofs.find_place.Goals as goal

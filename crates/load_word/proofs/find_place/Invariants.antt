@@ -1,10 +1,8 @@
-use mathlib.Core.Path.{◌≡◌, refl, sym, ap, ◌∙◌}
+use mathlib.Core.Path.{◌≡◌}
 use Prim.Native.Nat.{◌≤◌, ◌-◌}
 use lib.ListN.{drop, length}
-use Rattle.load_text.specs.Strings.{same, index_from}
+use Rattle.load_text.specs.Strings.{index_from}
 use Rattle.load_word.specs.Properties.{properties, property_names}
-use Rattle.load_text.proofs.Strings.{index_end, index_next, at_now}
-use borrow.Author.Rules.{rules}
 use Rattle.load_word.proofs.find_place.Given as goal
 
 abbrev pub invariant-loop-k : goal.invariant-loop-k

@@ -1,5 +1,4 @@
 -- `find_property` meets its contract: the property at the place of its name.
-use borrow.Author.Rules.{rules}
 use Rattle.load_word.proofs.Words.{property_found, property_none}
 use Rattle.load_word.proofs.find_property.Goals as goal
 

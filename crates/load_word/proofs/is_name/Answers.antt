@@ -1,6 +1,5 @@
 -- `is_name` meets its contract.
 use Rattle.load_word.specs.Words.{is_name}
-use borrow.Author.Rules.{rules}
 use Rattle.load_word.proofs.is_name.Goals as goal
 
 pub returns : goal.returns

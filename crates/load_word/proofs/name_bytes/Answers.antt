@@ -1,8 +1,5 @@
 -- `name_bytes` meets its contract: what is left decides.
-use mathlib.Core.Path.{◌≡◌, refl, sym, ◌∙◌}
-use Prim.Native.Nat.{◌≤◌, ◌-◌}
-use lib.ListN.{length, drop}
-use Rattle.load_word.specs.Words.{name_bytes}
+use mathlib.Core.Path.{refl, sym, ◌∙◌}
 use Rattle.load_word.proofs.Words.{bytes_end, bytes_next}
 use borrow.Author.Rules.{rules}
 use Rattle.load_word.proofs.name_bytes.Goals as goal

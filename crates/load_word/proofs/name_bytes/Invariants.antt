@@ -1,9 +1,7 @@
-use mathlib.Core.Path.{◌≡◌, refl, sym, ◌∙◌}
+use mathlib.Core.Path.{◌≡◌}
 use Prim.Native.Nat.{◌≤◌, ◌-◌}
 use lib.ListN.{length, drop}
 use Rattle.load_word.specs.Words.{name_bytes}
-use Rattle.load_word.proofs.Words.{bytes_end, bytes_next}
-use borrow.Author.Rules.{rules}
 use Rattle.load_word.proofs.name_bytes.Given as goal
 
 abbrev pub invariant-loop-i : goal.invariant-loop-i

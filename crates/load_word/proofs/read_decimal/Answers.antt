@@ -1,9 +1,6 @@
 -- `read_decimal` meets its contract: the number from what was read so far and what is left.
-use mathlib.Core.Path.{◌≡◌, refl, sym, ◌∙◌, subst}
-use Prim.Native.Nat.{◌≤◌, ◌-◌}
-use lib.ListN.{length, drop}
-use Rattle.load_word.specs.Decimals.{Sane, blank, decimal_from}
-use Rattle.load_word.specs.declared.Reading.TheVariants.{On}
+use mathlib.Core.Path.{refl, sym, ◌∙◌, subst}
+use Rattle.load_word.specs.Decimals.{Sane}
 use Rattle.load_word.proofs.Decimals.{decimal_end, decimal_next}
 use borrow.Author.Rules.{rules}
 use Rattle.load_word.proofs.read_decimal.Goals as goal

@@ -1,10 +1,8 @@
-use mathlib.Core.Path.{◌≡◌, refl, sym, ◌∙◌, subst}
+use mathlib.Core.Path.{◌≡◌}
 use Prim.Native.Nat.{◌≤◌, ◌-◌}
 use lib.ListN.{length, drop}
 use Rattle.load_word.specs.Decimals.{Sane, blank, decimal_from}
 use Rattle.load_word.specs.declared.Reading.TheVariants.{On}
-use Rattle.load_word.proofs.Decimals.{decimal_end, decimal_next}
-use borrow.Author.Rules.{rules}
 use Rattle.load_word.proofs.read_decimal.Given as goal
 
 abbrev pub invariant-loop-i : goal.invariant-loop-i

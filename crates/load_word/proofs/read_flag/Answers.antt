@@ -1,7 +1,6 @@
 -- `read_flag` meets its contract, word by word.
 use mathlib.Core.Path.{sym, ◌∙◌}
 use Rattle.load_word.specs.Words.{flag_of}
-use borrow.Author.Rules.{rules}
 use Rattle.load_word.proofs.read_flag.Goals as goal
 
 pub returns-then-same_bytes : goal.returns-then-same_bytes

@@ -1,5 +1,4 @@
 -- `read_kind` meets its contract, word by word.
-use borrow.Author.Rules.{rules}
 use mathlib.Core.Path.{sym, ◌∙◌}
 use Rattle.load_word.specs.Words.{kind_of}
 use Rattle.load_word.proofs.read_kind.Goals as goal

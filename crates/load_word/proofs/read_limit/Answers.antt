@@ -1,7 +1,6 @@
 -- `read_limit` meets its contract.
 use mathlib.Core.Path.{sym, ◌∙◌}
 use Rattle.load_word.specs.Decimals.{count_end, count_of}
-use borrow.Author.Rules.{rules}
 use Rattle.load_word.proofs.read_limit.Goals as goal
 
 pub returns-in_default : goal.returns-in_default

@@ -3,7 +3,6 @@ use mathlib.Core.Path.{sym, ◌∙◌}
 use Rattle.load_word.specs.Words.{no_of}
 use Rattle.load_text.specs.Strings.{bytes}
 use Rattle.load_word.proofs.Words.{no_word}
-use borrow.Author.Rules.{rules}
 use Rattle.load_word.proofs.read_no.Goals as goal
 
 pub returns-then-same_bytes : goal.returns-then-same_bytes

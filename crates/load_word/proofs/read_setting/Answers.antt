@@ -4,7 +4,6 @@ use Rattle.service.specs.Numbers.{settings_from}
 use Rattle.service.proofs.Numbering.{flag_back}
 use Rattle.load_word.specs.Properties.{setting_of}
 use Rattle.load_word.proofs.Stores.{checked_not, checked_to, stored_not, stored_same, stored_to}
-use borrow.Author.Rules.{rules}
 use Rattle.load_word.proofs.read_setting.Goals as goal
 
 pub returns-in_default : goal.returns-in_default

@@ -1,9 +1,6 @@
 -- `read_signal` meets its contract: the place among the names that are left.
-use mathlib.Core.Path.{◌≡◌, refl, sym, ap, ◌∙◌}
-use Prim.Native.Nat.{◌≤◌, ◌+◌, ◌-◌}
-use lib.ListN.{drop}
-use Rattle.service.specs.Numbers.{last_signal}
-use Rattle.load_text.specs.Strings.{same, index_from}
+use mathlib.Core.Path.{refl, sym, ap, ◌∙◌}
+use Rattle.load_text.specs.Strings.{same}
 use Rattle.load_word.specs.Words.{signal_names}
 use Rattle.load_word.proofs.Words.{signal_found, signal_none}
 use Rattle.load_text.proofs.Strings.{index_end, index_next, at_now}

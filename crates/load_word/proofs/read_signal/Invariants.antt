@@ -1,12 +1,9 @@
-use mathlib.Core.Path.{◌≡◌, refl, sym, ap, ◌∙◌}
+use mathlib.Core.Path.{◌≡◌}
 use Prim.Native.Nat.{◌≤◌, ◌+◌, ◌-◌}
 use lib.ListN.{drop}
 use Rattle.service.specs.Numbers.{last_signal}
-use Rattle.load_text.specs.Strings.{same, index_from}
+use Rattle.load_text.specs.Strings.{index_from}
 use Rattle.load_word.specs.Words.{signal_names}
-use Rattle.load_word.proofs.Words.{signal_found, signal_none}
-use Rattle.load_text.proofs.Strings.{index_end, index_next, at_now}
-use borrow.Author.Rules.{rules}
 use Rattle.load_word.proofs.read_signal.Given as goal
 
 abbrev pub invariant-loop-k : goal.invariant-loop-k

@@ -2,7 +2,6 @@
 use mathlib.Core.Path.{sym, ◌∙◌, subst}
 use Rattle.load_word.specs.Decimals.{Sane, time_end, time_of}
 use Rattle.load_word.proofs.Decimals.{ten_digits, units_fit}
-use borrow.Author.Rules.{rules}
 use Rattle.load_word.proofs.read_time.Goals as goal
 
 pub returns-in_default : goal.returns-in_default

@@ -1,7 +1,6 @@
 -- `with_signal` meets its contract: every other setting is what its number is read back as.
 use Rattle.service.specs.Numbers.{settings_from}
 use Rattle.service.proofs.Numbering.{kind_back, flag_back}
-use borrow.Author.Rules.{rules}
 use Rattle.load_word.proofs.with_signal.Goals as goal
 
 pub returns : goal.returns

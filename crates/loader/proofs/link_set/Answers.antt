@@ -1,6 +1,5 @@
 -- `link_set` meets its contract.
 use Rattle.loader.proofs.Outcomes.{linked_on, linked_not}
-use borrow.Author.Rules.{rules}
 use Rattle.loader.proofs.link_set.Goals as goal
 
 pub returns-in_default : goal.returns-in_default

@@ -1,6 +1,5 @@
 -- `load` meets its contract.
 use Rattle.loader.proofs.Outcomes.{load_many, load_placed, load_on}
-use borrow.Author.Rules.{rules}
 use Rattle.loader.proofs.load.Goals as goal
 
 pub returns-then-positioned : goal.returns-then-positioned

@@ -1,6 +1,5 @@
 -- `load_set` meets its contract.
 use Rattle.loader.proofs.Outcomes.{names_not, names_on}
-use borrow.Author.Rules.{rules}
 use Rattle.loader.proofs.load_set.Goals as goal
 
 pub returns-in_default : goal.returns-in_default

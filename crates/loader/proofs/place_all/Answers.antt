@@ -1,9 +1,6 @@
 -- `place_all` meets its contract: what is left to place, from the place that was reached.
-use Prim.Native.Nat.{◌-◌}
-use Rattle.load_lent.specs.Parts.{text_at}
 use Rattle.loader.proofs.Laws.{text_short}
-use Rattle.loader.proofs.Services.{Placing, place_fits, placing_none, placing_more, placing_end}
-use borrow.Author.Rules.{rules}
+use Rattle.loader.proofs.Services.{place_fits, placing_none, placing_more, placing_end}
 use Rattle.loader.proofs.place_all.Goals as goal
 
 pub loop-j-init : goal.loop-j-init

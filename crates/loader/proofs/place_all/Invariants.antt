@@ -1,8 +1,6 @@
 use Prim.Native.Nat.{◌-◌}
 use Rattle.load_lent.specs.Parts.{text_at}
-use Rattle.loader.proofs.Laws.{text_short}
-use Rattle.loader.proofs.Services.{Placing, place_fits, placing_none, placing_more, placing_end}
-use borrow.Author.Rules.{rules}
+use Rattle.loader.proofs.Services.{Placing}
 use Rattle.loader.proofs.place_all.Given as goal
 
 abbrev pub invariant-loop-j : goal.invariant-loop-j

@@ -1,10 +1,7 @@
 -- `read_into` meets its contract: what is left of the texts, with the descriptions read so far.
-use Prim.Native.Nat.{◌-◌, ◌≤◌}
 use native.Mathlib.Nat.{sub-zero}
 use native.Mathlib.Omega.{arith}
-use mathlib.Core.Path.{◌≡◌, refl, sym, ◌∙◌}
-use Rattle.load_lent.specs.Parts.{text_at}
-use Rattle.loader.specs.Texts.{descriptions_from}
+use mathlib.Core.Path.{refl, sym, ◌∙◌}
 use Rattle.loader.proofs.Laws.{texts_end, texts_read, texts_bad}
 use borrow.Author.Rules.{rules}
 use Rattle.loader.proofs.read_into.Goals as goal

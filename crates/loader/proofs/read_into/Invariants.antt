@@ -1,11 +1,7 @@
 use Prim.Native.Nat.{◌-◌, ◌≤◌}
-use native.Mathlib.Nat.{sub-zero}
-use native.Mathlib.Omega.{arith}
-use mathlib.Core.Path.{◌≡◌, refl, sym, ◌∙◌}
+use mathlib.Core.Path.{◌≡◌}
 use Rattle.load_lent.specs.Parts.{text_at}
 use Rattle.loader.specs.Texts.{descriptions_from}
-use Rattle.loader.proofs.Laws.{texts_end, texts_read, texts_bad}
-use borrow.Author.Rules.{rules}
 use Rattle.loader.proofs.read_into.Given as goal
 
 abbrev pub invariant-loop-j : goal.invariant-loop-j

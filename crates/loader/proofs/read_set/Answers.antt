@@ -1,6 +1,5 @@
 -- `read_set` meets its contract.
 use Rattle.loader.proofs.Outcomes.{read_on_lem, read_not}
-use borrow.Author.Rules.{rules}
 use Rattle.loader.proofs.read_set.Goals as goal
 
 pub returns-in_default : goal.returns-in_default

@@ -1,6 +1,5 @@
 -- `read_texts` meets its contract.
 use Rattle.loader.proofs.Laws.{texts_blank}
-use borrow.Author.Rules.{rules}
 use Rattle.loader.proofs.read_texts.Goals as goal
 
 pub returns : goal.returns

@@ -2,7 +2,6 @@
 use mathlib.Core.Path.{ap}
 use Rattle.service.specs.declared.Table.{Table}
 use Rattle.loader.specs.Tokens.{no_commands}
-use borrow.Author.Rules.{rules}
 use Rattle.loader.proofs.refuse.Goals as goal
 
 pub returns : goal.returns

@@ -1,5 +1,4 @@
 -- `refuse_text` meets its contract.
-use borrow.Author.Rules.{rules}
 use Rattle.loader.proofs.refuse_text.Goals as goal
 
 pub returns-in-Good : goal.returns-in-Good

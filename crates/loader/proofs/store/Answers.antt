@@ -1,6 +1,5 @@
 -- `store` meets its contract.
 use Rattle.loader.proofs.Outcomes.{placed_places, stored_fits, stored_small}
-use borrow.Author.Rules.{rules}
 use Rattle.loader.proofs.store.Goals as goal
 
 pub write_all-requires : goal.write_all-requires

@@ -1,6 +1,5 @@
 -- `store_acyclic` meets its contract.
 use Rattle.loader.proofs.Outcomes.{acyclic_on, acyclic_not}
-use borrow.Author.Rules.{rules}
 use Rattle.loader.proofs.store_acyclic.Goals as goal
 
 pub returns-then-n-low : goal.returns-then-n-low

@@ -1,7 +1,5 @@
 -- `write_all` meets its contract: what is left to write, from the place that was reached.
-use Prim.Native.Nat.{◌-◌}
-use Rattle.load_lent.specs.Parts.{text_at}
-use Rattle.loader.proofs.Services.{Writing, places_told, writing_none, writing_more, writing_end}
+use Rattle.loader.proofs.Services.{places_told, writing_none, writing_more, writing_end}
 use borrow.Author.Rules.{rules}
 use Rattle.loader.proofs.write_all.Goals as goal
 

@@ -1,7 +1,6 @@
 use Prim.Native.Nat.{◌-◌}
 use Rattle.load_lent.specs.Parts.{text_at}
-use Rattle.loader.proofs.Services.{Writing, places_told, writing_none, writing_more, writing_end}
-use borrow.Author.Rules.{rules}
+use Rattle.loader.proofs.Services.{Writing}
 use Rattle.loader.proofs.write_all.Given as goal
 
 abbrev pub invariant-loop-j : goal.invariant-loop-j

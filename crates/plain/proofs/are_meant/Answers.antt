@@ -1,5 +1,4 @@
 -- `are_meant` meets its contract.
-use borrow.Author.Rules.{rules}
 use Rattle.plain.proofs.are_meant.Goals as goal
 
 pub returns : goal.returns

@@ -1,5 +1,4 @@
 -- `asked_of` meets its contract: the earliest time, or the number of the refusal.
-use borrow.Author.Rules.{rules}
 use Rattle.plain.proofs.asked_of.Goals as goal
 
 pub returns-in-Earliest : goal.returns-in-Earliest

@@ -1,5 +1,4 @@
 -- `asked_time` meets its contract: a deadline has a time, or none.
-use borrow.Author.Rules.{rules}
 use Rattle.plain.proofs.asked_time.Goals as goal
 
 pub returns-in-None : goal.returns-in-None

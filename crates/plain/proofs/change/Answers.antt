@@ -1,5 +1,4 @@
 -- `change` meets its contract: each event is the call of its name.
-use borrow.Author.Rules.{rules}
 use Rattle.plain.proofs.Laws.{changed_as}
 use Rattle.plain.proofs.change.Goals as goal
 

@@ -1,5 +1,4 @@
 -- `event` meets its contract: numbers that stand for nothing, or the state is kept where the change was not refused.
-use borrow.Author.Rules.{rules}
 use Rattle.plain.specs.Calls.{refusal_of}
 use Rattle.plain.proofs.Laws.{event_kept, nothing_called}
 use Rattle.plain.proofs.event.Goals as goal

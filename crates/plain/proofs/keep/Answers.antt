@@ -1,5 +1,4 @@
 -- `keep` meets its contract: the number 0 decides.
-use borrow.Author.Rules.{rules}
 use borrow.Author.Tests.{ne_eqb}
 use Rattle.plain.proofs.keep.Goals as goal
 

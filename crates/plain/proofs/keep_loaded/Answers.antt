@@ -1,5 +1,4 @@
 -- `keep_loaded` meets its contract: a load is refused, or written.
-use borrow.Author.Rules.{rules}
 use Rattle.plain.proofs.Loads.{load_refused, load_written}
 use Rattle.plain.proofs.keep_loaded.Goals as goal
 

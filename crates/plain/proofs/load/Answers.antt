@@ -1,5 +1,4 @@
 -- `load` meets its contract: what the loader gave is kept.
-use borrow.Author.Rules.{rules}
 use mathlib.Core.Path.{ap}
 use Rattle.loader.specs.Load.{Outcome}
 use Rattle.plain.proofs.Loads.{load_kept}

@@ -1,5 +1,4 @@
 -- `load_of` meets its contract: the count, or the refusal's four numbers.
-use borrow.Author.Rules.{rules}
 use Rattle.plain.proofs.load_of.Goals as goal
 
 pub returns-in-Accepted : goal.returns-in-Accepted

@@ -1,5 +1,4 @@
 -- `next_action` meets its contract: numbers that stand for nothing, or the state is kept where the step was not refused.
-use borrow.Author.Rules.{rules}
 use Rattle.plain.specs.Calls.{next_of}
 use Rattle.plain.proofs.Laws.{next_kept, nothing_called}
 use Rattle.plain.proofs.next_action.Goals as goal

@@ -1,5 +1,4 @@
 -- `next_of` meets its contract: the action in numbers, or the number of the refusal.
-use borrow.Author.Rules.{rules}
 use Rattle.plain.proofs.Laws.{acted_as}
 use Rattle.plain.proofs.next_of.Goals as goal
 

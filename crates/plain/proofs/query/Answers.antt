@@ -1,5 +1,4 @@
 -- `query` meets its contract: numbers that stand for nothing, or what the engine answers with the table and the state that were read.
-use borrow.Author.Rules.{rules}
 use Rattle.plain.proofs.Laws.{nothing_asked, query_told}
 use Rattle.plain.proofs.query.Goals as goal
 

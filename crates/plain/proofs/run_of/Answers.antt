@@ -1,5 +1,4 @@
 -- `run_of` meets its contract: how many actions, or the number of the refusal.
-use borrow.Author.Rules.{rules}
 use Rattle.plain.proofs.run_of.Goals as goal
 
 pub returns-in-Ran : goal.returns-in-Ran

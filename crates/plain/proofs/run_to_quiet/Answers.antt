@@ -1,5 +1,4 @@
 -- `run_to_quiet` meets its contract: numbers that stand for nothing, or the state is kept where the run was not refused.
-use borrow.Author.Rules.{rules}
 use Rattle.plain.specs.Calls.{run_of}
 use Rattle.plain.proofs.Laws.{Told-by, nothing_called, nothing_written, run_kept, run_written}
 use Rattle.plain.proofs.run_to_quiet.Goals as goal

@@ -1,12 +1,8 @@
 -- `write_counts` meets its contract: the counts of the services below s are put.
 use borrow.Author.Rules.{rules}
-use Prim.Native.Nat.{◌-◌}
-use lib.ListN.{get_or}
 use Rattle.base.proofs.Lists.{length_mapped}
-use Rattle.base.proofs.Loops.{Folded, folded_none, folded_more, folded_all}
-use Rattle.service.specs.Limits.{max_services}
-use Rattle.loader.specs.Tokens.{no_tokens}
-use Rattle.plain.specs.Loads.{counted, counts_of}
+use Rattle.base.proofs.Loops.{folded_none, folded_more, folded_all}
+use Rattle.plain.specs.Loads.{counts_of}
 use Rattle.plain.proofs.write_counts.Goals as goal
 
 pub loop-s-init : goal.loop-s-init

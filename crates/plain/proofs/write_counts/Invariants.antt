@@ -1,11 +1,9 @@
-use borrow.Author.Rules.{rules}
 use Prim.Native.Nat.{◌-◌}
 use lib.ListN.{get_or}
-use Rattle.base.proofs.Lists.{length_mapped}
-use Rattle.base.proofs.Loops.{Folded, folded_none, folded_more, folded_all}
+use Rattle.base.proofs.Loops.{Folded}
 use Rattle.service.specs.Limits.{max_services}
 use Rattle.loader.specs.Tokens.{no_tokens}
-use Rattle.plain.specs.Loads.{counted, counts_of}
+use Rattle.plain.specs.Loads.{counted}
 use Rattle.plain.proofs.write_counts.Given as goal
 
 abbrev pub invariant-loop-s : goal.invariant-loop-s

@@ -1,9 +1,5 @@
 -- `put` meets its contract: the first k of the numbers stand in their places.
-use borrow.Author.Rules.{rules}
-use Prim.Native.Nat.{◌+◌, ◌-◌}
-use lib.ListN.{get_or, set}
-use Rattle.base.proofs.Loops.{Folded, folded_none, folded_more, folded_all}
-use Rattle.plain_encoding.specs.Numbers.{per_place}
+use Rattle.base.proofs.Loops.{folded_none, folded_more, folded_all}
 use Rattle.plain_encoding.proofs.put.Goals as goal
 
 pub loop-k-init : goal.loop-k-init

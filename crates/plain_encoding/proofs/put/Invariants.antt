@@ -1,7 +1,6 @@
-use borrow.Author.Rules.{rules}
 use Prim.Native.Nat.{◌+◌, ◌-◌}
 use lib.ListN.{get_or, set}
-use Rattle.base.proofs.Loops.{Folded, folded_none, folded_more, folded_all}
+use Rattle.base.proofs.Loops.{Folded}
 use Rattle.plain_encoding.specs.Numbers.{per_place}
 use Rattle.plain_encoding.proofs.put.Given as goal
 

@@ -1,9 +1,5 @@
 -- `read_records` meets its contract: the records of the places below s are read.
-use borrow.Author.Rules.{rules}
-use Prim.Native.Nat.{◌-◌}
-use Rattle.service.specs.Limits.{max_services}
-use Rattle.plain_encoding.specs.Numbers.{place_of, record_from}
-use Rattle.plain_encoding.proofs.Laws.{Reading, reading_none, reading_more, reading_all}
+use Rattle.plain_encoding.proofs.Laws.{reading_none, reading_more, reading_all}
 use Rattle.plain_encoding.proofs.read_records.Goals as goal
 
 pub loop-s-init : goal.loop-s-init

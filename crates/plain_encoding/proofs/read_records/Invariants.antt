@@ -1,8 +1,7 @@
-use borrow.Author.Rules.{rules}
 use Prim.Native.Nat.{◌-◌}
 use Rattle.service.specs.Limits.{max_services}
 use Rattle.plain_encoding.specs.Numbers.{place_of, record_from}
-use Rattle.plain_encoding.proofs.Laws.{Reading, reading_none, reading_more, reading_all}
+use Rattle.plain_encoding.proofs.Laws.{Reading}
 use Rattle.plain_encoding.proofs.read_records.Given as goal
 
 abbrev pub invariant-loop-s : goal.invariant-loop-s

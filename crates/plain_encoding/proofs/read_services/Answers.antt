@@ -1,10 +1,5 @@
 -- `read_services` meets its contract: the settings of the places below s are read.
-use borrow.Author.Rules.{rules}
-use Prim.Native.Nat.{◌-◌}
-use Rattle.service.specs.Limits.{max_services}
-use Rattle.service.specs.Numbers.{settings_from}
-use Rattle.plain_encoding.specs.Numbers.{place_of}
-use Rattle.plain_encoding.proofs.Laws.{Reading, reading_none, reading_more, reading_all}
+use Rattle.plain_encoding.proofs.Laws.{reading_none, reading_more, reading_all}
 use Rattle.plain_encoding.proofs.read_services.Goals as goal
 
 pub loop-s-init : goal.loop-s-init

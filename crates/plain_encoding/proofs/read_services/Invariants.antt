@@ -1,9 +1,8 @@
-use borrow.Author.Rules.{rules}
 use Prim.Native.Nat.{◌-◌}
 use Rattle.service.specs.Limits.{max_services}
 use Rattle.service.specs.Numbers.{settings_from}
 use Rattle.plain_encoding.specs.Numbers.{place_of}
-use Rattle.plain_encoding.proofs.Laws.{Reading, reading_none, reading_more, reading_all}
+use Rattle.plain_encoding.proofs.Laws.{Reading}
 use Rattle.plain_encoding.proofs.read_services.Given as goal
 
 abbrev pub invariant-loop-s : goal.invariant-loop-s

@@ -1,5 +1,4 @@
 -- `read_state` meets its contract: the clock, and records that were read over fresh ones.
-use borrow.Author.Rules.{rules}
 use Rattle.plain_encoding.proofs.Laws.{state_read}
 use Rattle.plain_encoding.proofs.read_state.Goals as goal
 

@@ -1,5 +1,4 @@
 -- `read_table` meets its contract: the count, and settings that were read over default ones.
-use borrow.Author.Rules.{rules}
 use Rattle.plain_encoding.proofs.Laws.{table_read}
 use Rattle.plain_encoding.proofs.read_table.Goals as goal
 

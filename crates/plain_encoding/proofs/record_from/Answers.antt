@@ -1,5 +1,4 @@
 -- `record_from` meets its contract: field by field. Each line of needs is that of one number, or of one call.
-use borrow.Author.Rules.{rules}
 use Rattle.plain_encoding.specs.Numbers.{record_from}
 use Rattle.plain_encoding.proofs.record_from.Goals as goal
 

@@ -1,5 +1,4 @@
 -- `record_numbers` meets its contract: field by field.
-use borrow.Author.Rules.{rules}
 use Rattle.plain_encoding.proofs.record_numbers.Goals as goal
 
 pub returns : goal.returns

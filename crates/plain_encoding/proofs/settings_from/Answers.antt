@@ -1,5 +1,4 @@
 -- `settings_from` meets its contract: field by field. Each line of needs is that of one number, or of one call.
-use borrow.Author.Rules.{rules}
 use Rattle.service.specs.Numbers.{settings_from}
 use Rattle.plain_encoding.proofs.settings_from.Goals as goal
 

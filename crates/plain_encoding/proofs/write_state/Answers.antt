@@ -1,10 +1,7 @@
 -- `write_state` meets its contract: what stands in front is put, and then the numbers of the places below s.
-use borrow.Author.Rules.{rules}
-use Prim.Native.Nat.{◌-◌}
-use Rattle.service.specs.Limits.{max_services}
 use Rattle.service.specs.Records.{record_at}
-use Rattle.plain_encoding.specs.Numbers.{record_numbers, state_numbers}
-use Rattle.plain_encoding.proofs.Laws.{Writing, writing_none, writing_more, writing_all}
+use Rattle.plain_encoding.specs.Numbers.{state_numbers}
+use Rattle.plain_encoding.proofs.Laws.{writing_none, writing_more, writing_all}
 use Rattle.plain_encoding.proofs.write_state.Goals as goal
 
 pub loop-s-init : goal.loop-s-init

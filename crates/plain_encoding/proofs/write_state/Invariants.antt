@@ -1,9 +1,8 @@
-use borrow.Author.Rules.{rules}
 use Prim.Native.Nat.{◌-◌}
 use Rattle.service.specs.Limits.{max_services}
 use Rattle.service.specs.Records.{record_at}
-use Rattle.plain_encoding.specs.Numbers.{record_numbers, state_numbers}
-use Rattle.plain_encoding.proofs.Laws.{Writing, writing_none, writing_more, writing_all}
+use Rattle.plain_encoding.specs.Numbers.{record_numbers}
+use Rattle.plain_encoding.proofs.Laws.{Writing}
 use Rattle.plain_encoding.proofs.write_state.Given as goal
 
 abbrev pub invariant-loop-s : goal.invariant-loop-s

@@ -1,14 +1,11 @@
 -- `write_table` meets its contract: what stands in front is put, and then the numbers of the places below s.
 use borrow.Author.Rules.{rules}
-use Prim.Native.Nat.{◌-◌}
 use mathlib.Core.Path.{◌≡◌}
 use lib.ListN.{length}
 use Rattle.base.proofs.Lists.{length_mapped}
 use Rattle.service.specs.Limits.{max_services}
-use Rattle.service.specs.Settings.{settings_at}
-use Rattle.service.specs.Numbers.{settings_numbers}
 use Rattle.plain_encoding.specs.Numbers.{table_numbers}
-use Rattle.plain_encoding.proofs.Laws.{Writing, writing_none, writing_all, table_more}
+use Rattle.plain_encoding.proofs.Laws.{writing_none, writing_all, table_more}
 use Rattle.plain_encoding.proofs.write_table.Goals as goal
 
 pub loop-s-init : goal.loop-s-init

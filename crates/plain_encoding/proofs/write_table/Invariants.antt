@@ -1,13 +1,8 @@
-use borrow.Author.Rules.{rules}
 use Prim.Native.Nat.{◌-◌}
-use mathlib.Core.Path.{◌≡◌}
-use lib.ListN.{length}
-use Rattle.base.proofs.Lists.{length_mapped}
 use Rattle.service.specs.Limits.{max_services}
 use Rattle.service.specs.Settings.{settings_at}
 use Rattle.service.specs.Numbers.{settings_numbers}
-use Rattle.plain_encoding.specs.Numbers.{table_numbers}
-use Rattle.plain_encoding.proofs.Laws.{Writing, writing_none, writing_all, table_more}
+use Rattle.plain_encoding.proofs.Laws.{Writing}
 use Rattle.plain_encoding.proofs.write_table.Given as goal
 
 abbrev pub invariant-loop-s : goal.invariant-loop-s

@@ -1,13 +1,8 @@
 use Prim.Native.Nat.{◌+◌, ◌-◌}
-use mathlib.Core.Path.{ap, ◌∙◌}
 use mathlib.Core.Bool.{true}
-use Rattle.base.proofs.Loops.{Every, folded_none, every_all}
-use Rattle.scenario_words.specs.declared.Read.{Read}
+use Rattle.base.proofs.Loops.{Every}
 use Rattle.scenario_words.specs.Numbers.{number_of}
 use Rattle.scenario_lines.specs.Forms.{word_of}
-use Rattle.scenario_lines.specs.Lines.{are_numbers}
-use Rattle.scenario_lines.proofs.Tests.{every_on, every_off}
-use borrow.Author.Rules.{rules}
 use Rattle.scenario_lines.proofs.are_numbers.Given as goal
 
 abbrev pub invariant-loop-i : goal.invariant-loop-i

@@ -1,12 +1,9 @@
 -- `begins_as` meets its contract: the first k words fit.
-use Prim.Native.Nat.{◌-◌}
 use mathlib.Core.Path.{ap}
-use mathlib.Core.Bool.{true}
-use Rattle.base.proofs.Loops.{Every, folded_none, every_all}
+use Rattle.base.proofs.Loops.{folded_none, every_all}
 use Rattle.scenario_words.specs.declared.Read.{Read}
-use Rattle.scenario_lines.specs.Forms.{value_at, begins_as}
+use Rattle.scenario_lines.specs.Forms.{begins_as}
 use Rattle.scenario_lines.proofs.Tests.{every_on, every_off}
-use borrow.Author.Rules.{rules}
 use Rattle.scenario_lines.proofs.begins_as.Goals as goal
 
 pub loop-k-init : goal.loop-k-init

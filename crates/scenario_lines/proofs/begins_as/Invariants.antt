@@ -1,11 +1,7 @@
 use Prim.Native.Nat.{◌-◌}
-use mathlib.Core.Path.{ap}
 use mathlib.Core.Bool.{true}
-use Rattle.base.proofs.Loops.{Every, folded_none, every_all}
-use Rattle.scenario_words.specs.declared.Read.{Read}
-use Rattle.scenario_lines.specs.Forms.{value_at, begins_as}
-use Rattle.scenario_lines.proofs.Tests.{every_on, every_off}
-use borrow.Author.Rules.{rules}
+use Rattle.base.proofs.Loops.{Every}
+use Rattle.scenario_lines.specs.Forms.{value_at}
 use Rattle.scenario_lines.proofs.begins_as.Given as goal
 
 abbrev pub invariant-loop-k : goal.invariant-loop-k

@@ -1,6 +1,5 @@
 -- `fits_form` meets its contract.
 use Rattle.scenario_lines.proofs.Forms.{fits_as_long, fits_not}
-use borrow.Author.Rules.{rules}
 use Rattle.scenario_lines.proofs.fits_form.Goals as goal
 
 pub returns-then-equal : goal.returns-then-equal

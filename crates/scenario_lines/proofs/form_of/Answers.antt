@@ -1,9 +1,6 @@
 -- `form_of` meets its contract.
-use Prim.Native.Nat.{◌-◌}
 use Rattle.base.proofs.Loops.{passed_none}
-use Rattle.scenario_lines.specs.Forms.{form_count}
-use Rattle.scenario_lines.proofs.Forms.{Fitting, fitting_more, fitting_here, fitting_none}
-use borrow.Author.Rules.{rules}
+use Rattle.scenario_lines.proofs.Forms.{fitting_more, fitting_here, fitting_none}
 use Rattle.scenario_lines.proofs.form_of.Goals as goal
 
 pub loop-verb-init : goal.loop-verb-init

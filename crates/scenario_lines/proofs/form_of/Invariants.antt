@@ -1,8 +1,6 @@
 use Prim.Native.Nat.{◌-◌}
-use Rattle.base.proofs.Loops.{passed_none}
 use Rattle.scenario_lines.specs.Forms.{form_count}
-use Rattle.scenario_lines.proofs.Forms.{Fitting, fitting_more, fitting_here, fitting_none}
-use borrow.Author.Rules.{rules}
+use Rattle.scenario_lines.proofs.Forms.{Fitting}
 use Rattle.scenario_lines.proofs.form_of.Given as goal
 
 abbrev pub invariant-loop-verb : goal.invariant-loop-verb

@@ -1,7 +1,6 @@
 -- `most` meets its contract.
 use Rattle.load_text.specs.Strings.{bytes}
 use Rattle.scenario_lines.proofs.Forms.{most_read, most_service}
-use borrow.Author.Rules.{rules}
 use Rattle.scenario_lines.proofs.most.Goals as goal
 
 pub returns-then-same_bytes : goal.returns-then-same_bytes

@@ -1,7 +1,6 @@
 -- `opening` meets its contract: the tests of the definition in turn.
 use Rattle.load_text.specs.Strings.{bytes}
 use Rattle.scenario_lines.proofs.Lines.{opening_nothing, opening_begin, opening_line, opening_piece, opening_none}
-use borrow.Author.Rules.{rules}
 use Rattle.scenario_lines.proofs.opening.Goals as goal
 
 pub returns-then-nothing : goal.returns-then-nothing

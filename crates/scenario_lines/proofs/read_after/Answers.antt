@@ -1,7 +1,6 @@
 -- `read_after` meets its contract.
 use mathlib.Core.Path.{◌∙◌}
 use Rattle.scenario_lines.proofs.Lines.{after_read}
-use borrow.Author.Rules.{rules}
 use Rattle.scenario_lines.proofs.read_after.Goals as goal
 
 pub returns-then-good : goal.returns-then-good

@@ -1,6 +1,5 @@
 -- `read_any` meets its contract.
 use Rattle.scenario_lines.proofs.Lines.{any_parted, any_plain}
-use borrow.Author.Rules.{rules}
 use Rattle.scenario_lines.proofs.read_any.Goals as goal
 
 pub returns-then-parted : goal.returns-then-parted

@@ -2,7 +2,6 @@
 use native.Mathlib.Omega.{arith}
 use Rattle.scenario_words.proofs.Parting.{pieces_some}
 use Rattle.scenario_lines.proofs.Forms.{form_read}
-use borrow.Author.Rules.{rules}
 use Rattle.scenario_lines.proofs.read_form.Goals as goal
 
 pub overflow_sub-end : goal.overflow_sub-end

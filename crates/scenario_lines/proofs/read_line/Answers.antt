@@ -3,7 +3,6 @@ use Rattle.load_text.specs.Strings.{bytes}
 use Rattle.scenario_words.specs.Pieces.{pieces_of}
 use Rattle.scenario_lines.specs.Forms.{forms}
 use Rattle.scenario_lines.specs.Lines.{command_of}
-use borrow.Author.Rules.{rules}
 use Rattle.scenario_lines.proofs.read_line.Goals as goal
 
 pub returns : goal.returns

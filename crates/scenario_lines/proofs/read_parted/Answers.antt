@@ -1,6 +1,5 @@
 -- `read_parted` meets its contract.
 use Rattle.scenario_lines.proofs.Lines.{parted_none, parted_formed}
-use borrow.Author.Rules.{rules}
 use Rattle.scenario_lines.proofs.read_parted.Goals as goal
 
 pub returns-then-none : goal.returns-then-none

@@ -1,6 +1,5 @@
 -- `value` meets its contract: a number up to the most that the form says, or a choice.
 use Rattle.scenario_lines.proofs.Forms.{value_number, value_choice}
-use borrow.Author.Rules.{rules}
 use Rattle.scenario_lines.proofs.value.Goals as goal
 
 pub returns-then-numeric : goal.returns-then-numeric

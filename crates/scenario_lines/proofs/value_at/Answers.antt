@@ -1,6 +1,5 @@
 -- `value_at` meets its contract.
 use Rattle.scenario_lines.proofs.Forms.{value_there}
-use borrow.Author.Rules.{rules}
 use Rattle.scenario_lines.proofs.value_at.Goals as goal
 
 pub returns : goal.returns

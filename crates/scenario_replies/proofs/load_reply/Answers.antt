@@ -1,5 +1,4 @@
 -- `load_reply` meets its contract.
-use borrow.Author.Rules.{rules}
 use Rattle.scenario_replies.proofs.load_reply.Goals as goal
 
 pub returns-then-accepted : goal.returns-then-accepted

@@ -1,5 +1,4 @@
 -- `next_reply` meets its contract: each of the three answers by its law.
-use borrow.Author.Rules.{rules}
 use Rattle.scenario_replies.proofs.Next.{next_quiet, next_action_lem, next_refused}
 use Rattle.scenario_replies.proofs.next_reply.Goals as goal
 

@@ -1,5 +1,4 @@
 -- `query_reply` meets its contract.
-use borrow.Author.Rules.{rules}
 use Rattle.scenario_replies.proofs.query_reply.Goals as goal
 
 pub returns-then-timed : goal.returns-then-timed

@@ -1,7 +1,6 @@
 -- `bare` meets its contract: the bytes up to the end of the line are the line.
 use mathlib.Core.Path.{◌∙◌}
 use Rattle.load_text.proofs.Lines.{line_part_any}
-use borrow.Author.Rules.{rules}
 use Rattle.scenario_services.proofs.bare.Goals as goal
 
 pub returns : goal.returns

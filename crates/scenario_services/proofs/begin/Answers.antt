@@ -1,7 +1,6 @@
 -- `begin` meets its contract: the name is kept, or it is one too many.
 use native.Mathlib.Omega.{arith}
 use Rattle.scenario_services.proofs.Laws.{name_kept, name_not}
-use borrow.Author.Rules.{rules}
 use Rattle.scenario_services.proofs.begin.Goals as goal
 
 pub returns-then-begun-ge-KEPT_SERVICES : goal.returns-then-begun-ge-KEPT_SERVICES

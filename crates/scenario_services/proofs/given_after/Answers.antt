@@ -2,7 +2,6 @@
 use mathlib.Core.Path.{◌∙◌}
 use borrow.Author.Tests.{ne_eqb}
 use Rattle.scenario_services.specs.Keeping.{after_line}
-use borrow.Author.Rules.{rules}
 use Rattle.scenario_services.proofs.given_after.Goals as goal
 
 pub returns-then-verb-eq-BEGIN : goal.returns-then-verb-eq-BEGIN

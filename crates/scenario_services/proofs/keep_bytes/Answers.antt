@@ -1,8 +1,5 @@
 -- `keep_bytes` meets its contract: what is left to keep, from what was kept so far.
-use Prim.Native.Nat.{◌-◌}
-use lib.ListN.{length}
-use Rattle.scenario_services.proofs.Laws.{Keeping, keeping_none, keeping_more, keeping_full, keeping_all}
-use borrow.Author.Rules.{rules}
+use Rattle.scenario_services.proofs.Laws.{keeping_none, keeping_more, keeping_full, keeping_all}
 use Rattle.scenario_services.proofs.keep_bytes.Goals as goal
 
 pub loop-i-init : goal.loop-i-init

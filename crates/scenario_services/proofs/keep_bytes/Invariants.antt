@@ -1,7 +1,6 @@
 use Prim.Native.Nat.{◌-◌}
 use lib.ListN.{length}
-use Rattle.scenario_services.proofs.Laws.{Keeping, keeping_none, keeping_more, keeping_full, keeping_all}
-use borrow.Author.Rules.{rules}
+use Rattle.scenario_services.proofs.Laws.{Keeping}
 use Rattle.scenario_services.proofs.keep_bytes.Given as goal
 
 abbrev pub invariant-loop-i : goal.invariant-loop-i

@@ -6,7 +6,6 @@ use Prim.Native.Nat.{◌≤◌}
 use lib.ListN.{length}
 use lib.Seq.{take_all}
 use Rattle.scenario_services.proofs.Laws.{take_few}
-use borrow.Author.Rules.{rules}
 use Rattle.scenario_services.proofs.leading.Goals as goal
 
 pub returns-then-most-bytes : goal.returns-then-most-bytes

@@ -5,7 +5,6 @@ use Rattle.load_text.specs.Strings.{part_of}
 use Rattle.scenario_lines.specs.Lines.{most_positions}
 use Rattle.scenario_services.specs.Lending.{lent_positions}
 use Rattle.scenario_services.proofs.Laws.{part_none}
-use borrow.Author.Rules.{rules}
 use Rattle.scenario_services.proofs.lent_positions.Goals as goal
 
 pub returns-then-verb-eq-LOAD : goal.returns-then-verb-eq-LOAD

@@ -1,7 +1,6 @@
 -- `range` meets its contract: the two guards are those of the definition.
 use borrow.Author.Tests.{le-leb, lt-leb}
 use Rattle.load_text.specs.Strings.{part_of}
-use borrow.Author.Rules.{rules}
 use Rattle.scenario_services.proofs.range.Goals as goal
 
 pub returns-then-end-positions : goal.returns-then-end-positions

@@ -1,12 +1,10 @@
 -- `read_positions` meets its contract: the first i positions are those of the line.
 use mathlib.Core.Path.{ap, ◌∙◌}
-use Prim.Native.Nat.{◌-◌}
 use lib.ListN.{set}
-use Rattle.base.proofs.Loops.{Folded, folded_none, folded_more, folded_all}
+use Rattle.base.proofs.Loops.{folded_none, folded_more, folded_all}
 use Rattle.scenario_words.specs.declared.Read.{Read}
 use Rattle.scenario_words.specs.Numbers.{number_of}
 use Rattle.scenario_services.specs.Lending.{position_of}
-use borrow.Author.Rules.{rules}
 use Rattle.scenario_services.proofs.read_positions.Goals as goal
 
 pub loop-i-init : goal.loop-i-init

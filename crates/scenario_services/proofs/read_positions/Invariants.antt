@@ -1,11 +1,7 @@
-use mathlib.Core.Path.{ap, ◌∙◌}
 use Prim.Native.Nat.{◌-◌}
 use lib.ListN.{set}
-use Rattle.base.proofs.Loops.{Folded, folded_none, folded_more, folded_all}
-use Rattle.scenario_words.specs.declared.Read.{Read}
-use Rattle.scenario_words.specs.Numbers.{number_of}
+use Rattle.base.proofs.Loops.{Folded}
 use Rattle.scenario_services.specs.Lending.{position_of}
-use borrow.Author.Rules.{rules}
 use Rattle.scenario_services.proofs.read_positions.Given as goal
 
 abbrev pub invariant-loop-i : goal.invariant-loop-i

@@ -2,7 +2,6 @@
 use mathlib.Core.Path.{◌∙◌}
 use borrow.Author.Tests.{ne_eqb}
 use Rattle.scenario_services.specs.Lending.{with_positions}
-use borrow.Author.Rules.{rules}
 use Rattle.scenario_services.proofs.take_positions.Goals as goal
 
 pub returns-then-command-eq-LOAD_AT : goal.returns-then-command-eq-LOAD_AT

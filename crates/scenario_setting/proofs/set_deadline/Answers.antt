@@ -1,5 +1,4 @@
 -- `set_deadline` meets its contract: the place decides.
-use borrow.Author.Rules.{rules}
 use borrow.Author.Tests.{ne_eqb}
 use Rattle.scenario_setting.specs.Setting.{deadline_set}
 use Rattle.scenario_setting.proofs.set_deadline.Goals as goal

@@ -1,5 +1,4 @@
 -- `set_number` meets its contract: service and place are inside, or nothing is set.
-use borrow.Author.Rules.{rules}
 use borrow.Author.Tests.{lt-ltb, le-ltb}
 use Rattle.scenario_setting.specs.Setting.{number_set}
 use Rattle.scenario_setting.proofs.set_number.Goals as goal

@@ -1,5 +1,4 @@
 -- `set_record` meets its contract.
-use borrow.Author.Rules.{rules}
 use Rattle.scenario_setting.proofs.set_record.Goals as goal
 
 pub returns : goal.returns

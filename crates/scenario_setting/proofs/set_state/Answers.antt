@@ -1,5 +1,4 @@
 -- `set_state` meets its contract: the verb decides.
-use borrow.Author.Rules.{rules}
 use borrow.Author.Tests.{ne_eqb, le-leb, lt-leb}
 use Rattle.scenario_setting.specs.Setting.{state_after}
 use Rattle.scenario_setting.proofs.set_state.Goals as goal

@@ -1,5 +1,4 @@
 -- `set_table` meets its contract: the verb decides.
-use borrow.Author.Rules.{rules}
 use borrow.Author.Tests.{ne_eqb, le-leb, lt-leb}
 use Rattle.scenario_setting.specs.Setting.{table_after}
 use Rattle.scenario_setting.proofs.set_table.Goals as goal

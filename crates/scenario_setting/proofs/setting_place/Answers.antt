@@ -1,5 +1,4 @@
 -- `setting_place` meets its contract: the signal is passed over.
-use borrow.Author.Rules.{rules}
 use borrow.Author.Tests.{lt-ltb, le-ltb}
 use Rattle.scenario_setting.proofs.setting_place.Goals as goal
 

@@ -1,9 +1,7 @@
 -- `number` meets its contract.
-use Prim.Native.Nat.{◌-◌, zero-le}
-use lib.ListN.{length}
+use Prim.Native.Nat.{zero-le}
 use Rattle.scenario_words.specs.Numbers.{number_of}
-use Rattle.scenario_words.proofs.Numbers.{Reading, reading_all, reading_more, reading_off}
-use borrow.Author.Rules.{rules}
+use Rattle.scenario_words.proofs.Numbers.{reading_all, reading_more, reading_off}
 use Rattle.scenario_words.proofs.number.Goals as goal
 
 pub returns-else-sized : goal.returns-else-sized

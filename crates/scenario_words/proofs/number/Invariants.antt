@@ -1,8 +1,6 @@
-use Prim.Native.Nat.{◌-◌, zero-le}
+use Prim.Native.Nat.{◌-◌}
 use lib.ListN.{length}
-use Rattle.scenario_words.specs.Numbers.{number_of}
-use Rattle.scenario_words.proofs.Numbers.{Reading, reading_all, reading_more, reading_off}
-use borrow.Author.Rules.{rules}
+use Rattle.scenario_words.proofs.Numbers.{Reading}
 use Rattle.scenario_words.proofs.number.Given as goal
 
 abbrev pub invariant-loop-i : goal.invariant-loop-i

@@ -1,6 +1,5 @@
 -- `number_to` meets its contract.
 use Rattle.scenario_words.proofs.Numbers.{number_held}
-use borrow.Author.Rules.{rules}
 use Rattle.scenario_words.proofs.number_to.Goals as goal
 
 pub returns-then-good : goal.returns-then-good

@@ -1,7 +1,6 @@
 -- `piece` meets its contract: the part from where it begins to where it ends.
 use mathlib.Core.Path.{sym, ◌∙◌}
 use Rattle.scenario_words.proofs.Parting.{piece_part}
-use borrow.Author.Rules.{rules}
 use Rattle.scenario_words.proofs.piece.Goals as goal
 
 pub returns : goal.returns

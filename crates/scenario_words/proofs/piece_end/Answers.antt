@@ -1,8 +1,5 @@
 -- `piece_end` meets its contract.
-use Prim.Native.Nat.{◌-◌}
-use lib.ListN.{length}
-use Rattle.scenario_words.proofs.Parting.{Ending, ending_none, ending_more, ending_here, ending_all}
-use borrow.Author.Rules.{rules}
+use Rattle.scenario_words.proofs.Parting.{ending_none, ending_more, ending_here, ending_all}
 use Rattle.scenario_words.proofs.piece_end.Goals as goal
 
 pub loop-end-init : goal.loop-end-init

@@ -1,7 +1,6 @@
 use Prim.Native.Nat.{◌-◌}
 use lib.ListN.{length}
-use Rattle.scenario_words.proofs.Parting.{Ending, ending_none, ending_more, ending_here, ending_all}
-use borrow.Author.Rules.{rules}
+use Rattle.scenario_words.proofs.Parting.{Ending}
 use Rattle.scenario_words.proofs.piece_end.Given as goal
 
 abbrev pub invariant-loop-end : goal.invariant-loop-end

@@ -1,7 +1,5 @@
 -- `piece_start` meets its contract.
-use Prim.Native.Nat.{◌-◌}
-use lib.ListN.{length}
-use Rattle.scenario_words.proofs.Parting.{Starting, starting_none, starting_past, starting_more, starting_here, starting_all}
+use Rattle.scenario_words.proofs.Parting.{starting_none, starting_past, starting_more, starting_here, starting_all}
 use borrow.Author.Rules.{rules}
 use Rattle.scenario_words.proofs.piece_start.Goals as goal
 

@@ -1,8 +1,5 @@
 -- `pieces` meets its contract.
-use Prim.Native.Nat.{◌-◌}
-use lib.ListN.{length}
-use Rattle.scenario_words.proofs.Parting.{Counting, counting_none, counting_past, counting_more, counting_all}
-use borrow.Author.Rules.{rules}
+use Rattle.scenario_words.proofs.Parting.{counting_none, counting_past, counting_more, counting_all}
 use Rattle.scenario_words.proofs.pieces.Goals as goal
 
 pub loop-at-init : goal.loop-at-init

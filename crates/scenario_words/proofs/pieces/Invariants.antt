@@ -1,7 +1,6 @@
 use Prim.Native.Nat.{◌-◌}
 use lib.ListN.{length}
-use Rattle.scenario_words.proofs.Parting.{Counting, counting_none, counting_past, counting_more, counting_all}
-use borrow.Author.Rules.{rules}
+use Rattle.scenario_words.proofs.Parting.{Counting}
 use Rattle.scenario_words.proofs.pieces.Given as goal
 
 abbrev pub invariant-loop-at : goal.invariant-loop-at

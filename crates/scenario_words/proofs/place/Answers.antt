@@ -1,8 +1,6 @@
 -- `place` meets its contract.
-use Prim.Native.Nat.{◌-◌}
 use Rattle.base.proofs.Loops.{passed_none}
-use Rattle.scenario_words.proofs.Parting.{Choosing, choosing_more, choosing_here, choosing_none}
-use borrow.Author.Rules.{rules}
+use Rattle.scenario_words.proofs.Parting.{choosing_more, choosing_here, choosing_none}
 use Rattle.scenario_words.proofs.place.Goals as goal
 
 pub loop-k-init : goal.loop-k-init

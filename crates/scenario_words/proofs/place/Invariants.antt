@@ -1,7 +1,5 @@
 use Prim.Native.Nat.{◌-◌}
-use Rattle.base.proofs.Loops.{passed_none}
-use Rattle.scenario_words.proofs.Parting.{Choosing, choosing_more, choosing_here, choosing_none}
-use borrow.Author.Rules.{rules}
+use Rattle.scenario_words.proofs.Parting.{Choosing}
 use Rattle.scenario_words.proofs.place.Given as goal
 
 abbrev pub invariant-loop-k : goal.invariant-loop-k

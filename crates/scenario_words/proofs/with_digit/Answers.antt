@@ -2,7 +2,6 @@
 use native.Mathlib.Omega.{arith}
 use mathlib.Core.Logic.{inl, inr}
 use Rattle.scenario_words.proofs.Numbers.{digit_none, digit_taken, digit_past}
-use borrow.Author.Rules.{rules}
 use Rattle.scenario_words.proofs.with_digit.Goals as goal
 
 pub returns-then-digit-lt48 : goal.returns-then-digit-lt48

@@ -2,7 +2,6 @@
 use borrow.Author.Tests.{le-leb, lt-leb}
 use Rattle.rules.specs.Calls.{check, outcome}
 use Rattle.engine_calls.proofs.Accepted.{clock_done}
-use borrow.Author.Rules.{rules}
 use Rattle.engine_calls.proofs.events.clock.Goals as goal
 
 pub returns-then-to-le-LAST_CLOCK : goal.returns-then-to-le-LAST_CLOCK

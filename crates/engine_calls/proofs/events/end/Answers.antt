@@ -1,5 +1,4 @@
 -- `end` meets its contract: the checks in order, then the state.
-use Prim.Native.Nat.{◌≤◌}
 use native.Mathlib.Omega.{arith}
 use mathlib.Core.Path.{◌≡◌}
 use lib.ListN.{length}

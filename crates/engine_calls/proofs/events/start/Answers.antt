@@ -1,12 +1,6 @@
 -- `start` meets its contract: the checks in order, then the services below i are changed.
-use Prim.Native.Nat.{◌-◌}
-use mathlib.Core.Bool.{◌||◌}
-use lib.Dec.{eqb}
-use Rattle.base.specs.Sets.{has_bit}
 use Rattle.service.specs.Records.{record_at, with_record}
-use Rattle.rules.specs.Events.{started_as}
-use Rattle.engine_calls.proofs.Accepted.{start_ill, start_absent, start_done, Changing, changing_none, changing_more, changing_all}
-use borrow.Author.Rules.{rules}
+use Rattle.engine_calls.proofs.Accepted.{start_ill, start_absent, start_done, changing_none, changing_more, changing_all}
 use Rattle.engine_calls.proofs.events.start.Goals as goal
 
 pub returns-then-not-is_formed : goal.returns-then-not-is_formed

@@ -2,10 +2,8 @@ use Prim.Native.Nat.{◌-◌}
 use mathlib.Core.Bool.{◌||◌}
 use lib.Dec.{eqb}
 use Rattle.base.specs.Sets.{has_bit}
-use Rattle.service.specs.Records.{record_at, with_record}
 use Rattle.rules.specs.Events.{started_as}
-use Rattle.engine_calls.proofs.Accepted.{start_ill, start_absent, start_done, Changing, changing_none, changing_more, changing_all}
-use borrow.Author.Rules.{rules}
+use Rattle.engine_calls.proofs.Accepted.{Changing}
 use Rattle.engine_calls.proofs.events.start.Given as goal
 
 abbrev pub invariant-loop-i : goal.invariant-loop-i

@@ -1,5 +1,4 @@
 -- `start_place` meets its contract: by the functions that it calls.
-use borrow.Author.Rules.{rules}
 use Rattle.engine_calls.proofs.events.start_place.Goals as goal
 
 pub returns : goal.returns

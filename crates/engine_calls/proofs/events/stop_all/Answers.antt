@@ -1,9 +1,6 @@
 -- `stop_all` meets its contract: the check, then the services below k are changed.
-use Prim.Native.Nat.{◌-◌}
 use Rattle.service.specs.Records.{record_at, with_record}
-use Rattle.rules.specs.Events.{stopped}
-use Rattle.engine_calls.proofs.Accepted.{stop_all_ill, stop_all_done, Changing, changing_none, changing_more, changing_all}
-use borrow.Author.Rules.{rules}
+use Rattle.engine_calls.proofs.Accepted.{stop_all_ill, stop_all_done, changing_none, changing_more, changing_all}
 use Rattle.engine_calls.proofs.events.stop_all.Goals as goal
 
 pub returns-then-not-is_formed : goal.returns-then-not-is_formed

@@ -1,9 +1,7 @@
 -- `query` meets its contract: the earliest time of the services below i.
-use borrow.Author.Rules.{rules}
-use Prim.Native.Nat.{◌-◌}
 use Rattle.service.specs.Records.{record_at}
 use Rattle.rules.specs.Calls.{check, outcome}
-use Rattle.engine_calls.proofs.Asked.{Asking, asking_none, asking_more, asking_all}
+use Rattle.engine_calls.proofs.Asked.{asking_none, asking_more, asking_all}
 use Rattle.engine_calls.proofs.times.query.Goals as goal
 
 pub loop-i-init : goal.loop-i-init

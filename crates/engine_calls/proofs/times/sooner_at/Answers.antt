@@ -1,6 +1,5 @@
 -- `sooner_at` meets its contract: each case by its own arm.
 use borrow.Author.Tests.{le-leb, lt-leb}
-use borrow.Author.Rules.{rules}
 use Rattle.engine_calls.proofs.times.sooner_at.Goals as goal
 
 pub returns-in-None : goal.returns-in-None

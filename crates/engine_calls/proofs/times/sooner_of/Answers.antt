@@ -1,5 +1,4 @@
 -- `sooner_of` meets its contract: each case by its own arm.
-use borrow.Author.Rules.{rules}
 use Rattle.engine_calls.proofs.times.sooner_of.Goals as goal
 
 pub returns-in-None : goal.returns-in-None

@@ -1,6 +1,5 @@
 -- `time_above` meets its contract: each case by its own arm.
 use borrow.Author.Tests.{lt-ltb, le-ltb}
-use borrow.Author.Rules.{rules}
 use Rattle.engine_calls.proofs.times.time_above.Goals as goal
 
 pub returns-in-None : goal.returns-in-None

@@ -1,5 +1,4 @@
 -- `with_times` meets its contract: by the functions that it calls.
-use borrow.Author.Rules.{rules}
 use Rattle.engine_calls.proofs.times.with_times.Goals as goal
 
 pub returns : goal.returns

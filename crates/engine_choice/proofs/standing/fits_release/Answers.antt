@@ -1,5 +1,4 @@
 -- `fits_release` meets its contract: by the tests that it calls.
-use borrow.Author.Rules.{rules}
 use Rattle.engine_choice.proofs.standing.fits_release.Goals as goal
 
 pub returns : goal.returns

@@ -1,6 +1,5 @@
 -- `is_due` meets its contract: each case by its own arm.
 use Rattle.rules.specs.Rules.{due}
-use borrow.Author.Rules.{rules}
 use Rattle.engine_choice.proofs.standing.is_due.Goals as goal
 
 pub returns-in-None : goal.returns-in-None

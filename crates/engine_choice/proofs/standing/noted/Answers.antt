@@ -1,5 +1,4 @@
 -- `noted` meets its contract: by the functions that it calls. A place is named for the set that is made there.
-use borrow.Author.Rules.{rules}
 use Rattle.engine_choice.proofs.standing.noted.Goals as goal
 
 pub returns : goal.returns

@@ -1,5 +1,4 @@
 -- `which_fit` meets its contract: by the test of each rule.
-use borrow.Author.Rules.{rules}
 use Rattle.engine_choice.proofs.standing.which_fit.Goals as goal
 
 pub returns : goal.returns

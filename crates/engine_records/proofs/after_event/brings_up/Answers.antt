@@ -1,5 +1,4 @@
 -- `brings_up` meets its contract: by the form.
-use borrow.Author.Rules.{rules}
 use Rattle.engine_records.proofs.after_event.brings_up.Goals as goal
 
 pub returns : goal.returns

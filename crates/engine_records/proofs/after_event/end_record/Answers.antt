@@ -1,7 +1,6 @@
 -- `end_record` meets its contract: each phase by its own arm.
 use Rattle.engine_records.specs.Sound.{sound}
 use Rattle.rules.specs.Events.{ended_as}
-use borrow.Author.Rules.{rules}
 use Rattle.engine_records.proofs.after_event.end_record.Goals as goal
 
 pub returns-in-Down : goal.returns-in-Down

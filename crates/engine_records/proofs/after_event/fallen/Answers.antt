@@ -1,5 +1,4 @@
 -- `fallen` meets its contract: by the functions that it calls.
-use borrow.Author.Rules.{rules}
 use Rattle.engine_records.proofs.after_event.fallen.Goals as goal
 
 pub returns : goal.returns

@@ -1,5 +1,4 @@
 -- `start_record` meets its contract: by the functions that it calls.
-use borrow.Author.Rules.{rules}
 use Rattle.engine_records.proofs.after_event.start_record.Goals as goal
 
 pub returns : goal.returns

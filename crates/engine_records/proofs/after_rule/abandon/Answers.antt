@@ -1,5 +1,4 @@
 -- `abandon` meets its contract: by `with_phase`.
-use borrow.Author.Rules.{rules}
 use Rattle.engine_records.proofs.after_rule.abandon.Goals as goal
 
 pub returns : goal.returns

@@ -1,5 +1,4 @@
 -- `begin` meets its contract: each form by its own arm.
-use borrow.Author.Rules.{rules}
 use Rattle.engine_records.proofs.after_rule.begin.Goals as goal
 
 pub returns-in-Bare : goal.returns-in-Bare

@@ -1,6 +1,5 @@
 -- `deadline_in` meets its contract: none where the timeout is 0.
 use borrow.Author.Tests.{eq-eqb, ne_eqb}
-use borrow.Author.Rules.{rules}
 use Rattle.engine_records.proofs.after_rule.deadline_in.Goals as goal
 
 pub returns-then-timeout-eq0 : goal.returns-then-timeout-eq0

@@ -1,5 +1,4 @@
 -- `end` meets its contract: by the deadline.
-use borrow.Author.Rules.{rules}
 use Rattle.engine_records.proofs.after_rule.end.Goals as goal
 
 pub returns : goal.returns

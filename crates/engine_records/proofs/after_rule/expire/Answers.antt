@@ -1,5 +1,4 @@
 -- `expire` meets its contract: by the phase.
-use borrow.Author.Rules.{rules}
 use Rattle.engine_records.proofs.after_rule.expire.Goals as goal
 
 pub returns-then-is_starting : goal.returns-then-is_starting

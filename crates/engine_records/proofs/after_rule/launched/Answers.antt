@@ -1,5 +1,4 @@
 -- `launched` meets its contract: by `moved`.
-use borrow.Author.Rules.{rules}
 use Rattle.engine_records.proofs.after_rule.launched.Goals as goal
 
 pub returns : goal.returns

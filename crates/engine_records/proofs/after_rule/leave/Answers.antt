@@ -1,7 +1,6 @@
 -- `leave` meets its contract: what is sound is changed.
 use mathlib.Core.Path.{◌∙◌, sym}
 use Rattle.engine_records.proofs.Bounds.{sound_facts}
-use borrow.Author.Rules.{rules}
 use Rattle.engine_records.proofs.after_rule.leave.Goals as goal
 
 pub leave_sound-requires : goal.leave_sound-requires

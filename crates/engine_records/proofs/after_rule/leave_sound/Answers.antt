@@ -1,5 +1,4 @@
 -- `leave_sound` meets its contract: each rule by its own arm.
-use borrow.Author.Rules.{rules}
 use Rattle.engine_records.proofs.after_rule.leave_sound.Goals as goal
 
 pub returns-in-Lose : goal.returns-in-Lose

@@ -1,5 +1,4 @@
 -- `lose` meets its contract: by the cause.
-use borrow.Author.Rules.{rules}
 use Rattle.engine_records.proofs.after_rule.lose.Goals as goal
 
 pub returns : goal.returns

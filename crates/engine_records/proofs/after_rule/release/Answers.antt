@@ -1,5 +1,4 @@
 -- `release` meets its contract: by the phase.
-use borrow.Author.Rules.{rules}
 use Rattle.engine_records.proofs.after_rule.release.Goals as goal
 
 pub returns-then-is_waiting : goal.returns-then-is_waiting

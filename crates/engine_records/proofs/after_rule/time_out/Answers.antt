@@ -1,5 +1,4 @@
 -- `time_out` meets its contract: by the deadline and the cause.
-use borrow.Author.Rules.{rules}
 use Rattle.engine_records.proofs.after_rule.time_out.Goals as goal
 
 pub returns : goal.returns

@@ -1,5 +1,4 @@
 -- `at_rest` meets its contract: by `moved`.
-use borrow.Author.Rules.{rules}
 use Rattle.engine_records.proofs.settling.at_rest.Goals as goal
 
 pub returns : goal.returns

@@ -1,6 +1,5 @@
 -- `count_fall` meets its contract: what is sound is counted.
 use Rattle.engine_records.proofs.Bounds.{sound_facts}
-use borrow.Author.Rules.{rules}
 use Rattle.engine_records.proofs.settling.count_fall.Goals as goal
 
 pub count_sound-requires : goal.count_sound-requires

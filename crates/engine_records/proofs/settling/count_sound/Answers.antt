@@ -1,5 +1,4 @@
 -- `count_sound` meets its contract: the count is that of the window.
-use borrow.Author.Rules.{rules}
 use Rattle.engine_records.proofs.settling.count_sound.Goals as goal
 
 pub returns : goal.returns

@@ -1,6 +1,5 @@
 -- `is_sound` meets its contract: by the tests that it calls.
 use Rattle.engine_records.specs.Sound.{sound}
-use borrow.Author.Rules.{rules}
 use Rattle.engine_records.proofs.settling.is_sound.Goals as goal
 
 pub returns : goal.returns

@@ -1,5 +1,4 @@
 -- `is_window_over` meets its contract: by the time since its start.
-use borrow.Author.Rules.{rules}
 use Rattle.engine_records.proofs.settling.is_window_over.Goals as goal
 
 pub returns : goal.returns

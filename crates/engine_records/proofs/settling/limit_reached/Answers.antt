@@ -1,5 +1,4 @@
 -- `limit_reached` meets its contract: the count is that of the window.
-use borrow.Author.Rules.{rules}
 use Rattle.engine_records.proofs.settling.limit_reached.Goals as goal
 
 pub returns : goal.returns

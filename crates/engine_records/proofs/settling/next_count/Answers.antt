@@ -1,6 +1,5 @@
 -- `next_count` meets its contract: by the test.
 use native.Mathlib.Numerals.{add-one}
-use borrow.Author.Rules.{rules}
 use Rattle.engine_records.proofs.settling.next_count.Goals as goal
 
 pub returns-then-stays : goal.returns-then-stays

@@ -1,6 +1,5 @@
 -- `settle` meets its contract: what is sound is settled.
 use mathlib.Core.Path.{sym, ◌∙◌}
-use borrow.Author.Rules.{rules}
 use Rattle.engine_records.proofs.settling.settle.Goals as goal
 
 pub settle_sound-requires : goal.settle_sound-requires

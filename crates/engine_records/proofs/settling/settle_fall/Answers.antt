@@ -1,5 +1,4 @@
 -- `settle_fall` meets its contract: the fall is counted, and then the service rests.
-use borrow.Author.Rules.{rules}
 use Rattle.engine_records.proofs.settling.settle_fall.Goals as goal
 
 pub returns : goal.returns

@@ -1,5 +1,4 @@
 -- `settle_sound` meets its contract: each cause by its own arm.
-use borrow.Author.Rules.{rules}
 use Rattle.engine_records.proofs.settling.settle_sound.Goals as goal
 
 pub returns-in-None : goal.returns-in-None

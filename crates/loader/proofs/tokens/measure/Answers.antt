@@ -1,6 +1,5 @@
 -- `measure` meets its contract.
 use Rattle.loader.proofs.Kept.{measured_none, measured_bad, measured_empty, measured_some}
-use borrow.Author.Rules.{rules}
 use Rattle.loader.proofs.tokens.measure.Goals as goal
 
 pub returns-then-at-eq0 : goal.returns-then-at-eq0

@@ -1,6 +1,5 @@
 -- `place_service` meets its contract.
 use Rattle.loader.proofs.Kept.{first_fits, second_fits, room_most, service_placed}
-use borrow.Author.Rules.{rules}
 use Rattle.loader.proofs.tokens.place_service.Goals as goal
 
 pub returns : goal.returns

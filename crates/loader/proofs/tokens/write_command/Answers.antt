@@ -1,6 +1,5 @@
 -- `write_command` meets its contract.
 use Rattle.loader.proofs.Kept.{command_none, command_past, command_put}
-use borrow.Author.Rules.{rules}
 use Rattle.loader.proofs.tokens.write_command.Goals as goal
 
 pub returns-then-to-eq0 : goal.returns-then-to-eq0

@@ -1,6 +1,5 @@
 -- `write_service` meets its contract.
 use Rattle.loader.proofs.Kept.{start_counted, stop_counted, service_put}
-use borrow.Author.Rules.{rules}
 use Rattle.loader.proofs.tokens.write_service.Goals as goal
 
 pub returns : goal.returns

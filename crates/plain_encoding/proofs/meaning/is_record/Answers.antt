@@ -1,5 +1,4 @@
 -- `is_record` meets its contract: the numbers are held against those that are written of what they say.
-use borrow.Author.Rules.{rules}
 use Rattle.plain_encoding.specs.Meaning.{is_record}
 use Rattle.plain_encoding.proofs.meaning.is_record.Goals as goal
 

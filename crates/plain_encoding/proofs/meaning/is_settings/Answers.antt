@@ -1,5 +1,4 @@
 -- `is_settings` meets its contract: the numbers are held against those that are written of what they say.
-use borrow.Author.Rules.{rules}
 use Rattle.plain_encoding.specs.Meaning.{is_settings}
 use Rattle.plain_encoding.proofs.meaning.is_settings.Goals as goal
 

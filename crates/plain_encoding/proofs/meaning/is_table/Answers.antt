@@ -1,10 +1,6 @@
 -- `is_table` meets its contract: the places below s have the numbers of settings.
-use borrow.Author.Rules.{rules}
-use Prim.Native.Nat.{◌-◌}
-use Rattle.base.proofs.Loops.{Every, every_all, every_more, folded_none}
-use Rattle.service.specs.Limits.{max_services}
-use Rattle.plain_encoding.specs.Meaning.{is_settings, is_table}
-use Rattle.plain_encoding.specs.Numbers.{place_of}
+use Rattle.base.proofs.Loops.{every_all, every_more, folded_none}
+use Rattle.plain_encoding.specs.Meaning.{is_table}
 use Rattle.plain_encoding.proofs.meaning.is_table.Goals as goal
 
 pub loop-s-init : goal.loop-s-init

@@ -1,8 +1,7 @@
-use borrow.Author.Rules.{rules}
 use Prim.Native.Nat.{◌-◌}
-use Rattle.base.proofs.Loops.{Every, every_all, every_more, folded_none}
+use Rattle.base.proofs.Loops.{Every}
 use Rattle.service.specs.Limits.{max_services}
-use Rattle.plain_encoding.specs.Meaning.{is_settings, is_table}
+use Rattle.plain_encoding.specs.Meaning.{is_settings}
 use Rattle.plain_encoding.specs.Numbers.{place_of}
 use Rattle.plain_encoding.proofs.meaning.is_table.Given as goal
 

@@ -1,11 +1,6 @@
 -- `stand_as` meets its contract: the first k numbers of the place are those of the line.
-use borrow.Author.Rules.{rules}
-use Prim.Native.Nat.{◌+◌, ◌-◌}
-use lib.Dec.{eqb}
-use lib.ListN.{get_or}
-use Rattle.base.proofs.Loops.{Every, every_all, every_more, folded_none}
+use Rattle.base.proofs.Loops.{every_all, every_more, folded_none}
 use Rattle.plain_encoding.specs.Meaning.{stand_as}
-use Rattle.plain_encoding.specs.Numbers.{per_place}
 use Rattle.plain_encoding.proofs.meaning.stand_as.Goals as goal
 
 pub loop-k-init : goal.loop-k-init

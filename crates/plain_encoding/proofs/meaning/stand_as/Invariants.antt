@@ -1,9 +1,7 @@
-use borrow.Author.Rules.{rules}
 use Prim.Native.Nat.{◌+◌, ◌-◌}
 use lib.Dec.{eqb}
 use lib.ListN.{get_or}
-use Rattle.base.proofs.Loops.{Every, every_all, every_more, folded_none}
-use Rattle.plain_encoding.specs.Meaning.{stand_as}
+use Rattle.base.proofs.Loops.{Every}
 use Rattle.plain_encoding.specs.Numbers.{per_place}
 use Rattle.plain_encoding.proofs.meaning.stand_as.Given as goal
 

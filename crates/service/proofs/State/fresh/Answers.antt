@@ -1,5 +1,4 @@
 -- `State::fresh` meets its contract: an array of fresh records.
-use borrow.Author.Rules.{rules}
 use Rattle.service.specs.Records.{fresh_state}
 use Rattle.service.proofs.State.fresh.Goals as goal
 

@@ -1,5 +1,4 @@
 -- `Table::empty` meets its contract: an array of default settings.
-use borrow.Author.Rules.{rules}
 use Rattle.service.proofs.Table.empty.Goals as goal
 
 pub returns : goal.returns

@@ -1,5 +1,4 @@
 -- `action_number` meets its contract: each action by its own arm.
-use borrow.Author.Rules.{rules}
 use Rattle.service.proofs.numbers.action_number.Goals as goal
 
 pub returns-in-Signal : goal.returns-in-Signal

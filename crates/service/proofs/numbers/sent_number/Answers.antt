@@ -1,5 +1,4 @@
 -- `sent_number` meets its contract: no signal's number is past the last.
-use borrow.Author.Rules.{rules}
 use native.Mathlib.Omega.{arith}
 use Rattle.service.proofs.Numbering.{signal_back}
 use Rattle.service.proofs.numbers.sent_number.Goals as goal
