@@ -426,12 +426,6 @@ def convert(path, folder, of, module):
         with open(os.path.join(folder, "Answers.antt"), "w", encoding="utf-8") as it:
             it.write(out)
     if inv:
-        lines = []
-        loops = {}
-        for entry in of["loops"]:
-            loops[flat(json.dumps(entry))] = entry
-        for comments, kind, loop, unfolding, clauses, name in inv:
-            lines.append("\n".join([*comments, f"?{kind} {loop}", *clauses]))
         out = "\n".join([*([] if ans else head), *uses, f"use {module}.Given as goal", ""]) + "\n" + "\n\n".join(invariant(f, of, *i) for i in inv) + "\n"
         with open(os.path.join(folder, "Invariants.antt"), "w", encoding="utf-8") as it:
             it.write(out)
