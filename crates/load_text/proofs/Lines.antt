@@ -16,8 +16,9 @@ use Rattle.load_text.specs.Strings.{part_of}
 use Rattle.load_text.specs.Bytes.{is_white, is_newline, is_property_byte, is_sign, run}
 use Rattle.load_text.specs.Lines.{line_of, grow, lines_of, fault, says_nothing, name_end, white_end, opening}
 use Rattle.load_text.proofs.Runs.{run_within}
-use Rattle.load_text.specs.declared.Opening.{Opening}
-use Rattle.load_text.specs.declared.Opening.TheVariants.{Nothing, Named, Bad}
+use Rattle.std.specs.Prelude.{Option, Some, None, Result, Ok, Err}
+use Rattle.load_text.specs.declared.Fault.{Fault}
+use Rattle.load_text.specs.declared.Places.{Places}
 
 module _ (s : List ℕ) (k : ℕ) where
   pub line_none : length s ≤ k → line_of (drop k s) ≡ []
@@ -103,21 +104,21 @@ module _ (l : List ℕ) {a : ℕ} (p : a ≡ white_end l 0) where
   name_inside = run_within is_white l 0 zero-le p
 
   module _ {f : ℕ} (u : f ≡ get_or l a 0) where
-    pub opening_nothing : leb (length l) a || eqb f 35 ≡ true → Nothing ≡ opening l
+    pub opening_nothing : leb (length l) a || eqb f 35 ≡ true → Ok None ≡ opening l
     unfolding opening
     opening_nothing x = rw (← p, ← u, x)
 
     module _ {e : ℕ} (q : e ≡ name_end l a) (x : leb (length l) a || eqb f 35 ≡ false) where
-      pub opening_nameless : eqb a e ≡ true → Bad (fault 7 a) ≡ opening l
+      pub opening_nameless : eqb a e ≡ true → Err (fault 7 a) ≡ opening l
       unfolding opening
       opening_nameless y = rw (← p, ← u, x, ← q, y)
 
       module _ {s b : ℕ} {g : Bool} (r : s ≡ white_end l e) (v : b ≡ get_or l s 0) (w : g ≡ is_sign b) (y : eqb a e ≡ false) where
-        pub opening_named : g ≡ true → Named (record { from = a; end = e; value = s + 1 }) ≡ opening l
+        pub opening_named : g ≡ true → Ok (Some (record { from = a; end = e; value = s + 1 })) ≡ opening l
         unfolding opening
         opening_named z = rw (← p, ← u, x, ← q, y, ← r, ← v, ← w, z)
 
-        pub opening_unsigned : g ≡ false → Bad (fault 7 s) ≡ opening l
+        pub opening_unsigned : g ≡ false → Err (fault 7 s) ≡ opening l
         unfolding opening
         opening_unsigned z = rw (← p, ← u, x, ← q, y, ← r, ← v, ← w, z)
 
@@ -128,10 +129,10 @@ module _ (l : List ℕ) {a : ℕ} (p : a ≡ white_end l 0) where
       omega (arith, run_within is_white l e h r)
 
 -- the places of an opening are within n bytes
-abbrev pub Inside : ℕ → Opening → Type 0
-Inside n Nothing = Unit {0}
-Inside n (Named s) = (s.from ≤ n) × (s.value ≤ n)
-Inside n (Bad f) = f.at ≤ n
+abbrev pub Inside : ℕ → Result (Option Places) Fault → Type 0
+Inside n (Ok None) = Unit {0}
+Inside n (Ok (Some s)) = (s.from ≤ n) × (s.value ≤ n)
+Inside n (Err f) = f.at ≤ n
 
 -- a byte of a class that 0 is not of is in the list
 pub class_inside : (p : ℕ → Bool) → p 0 ≡ false → (l : List ℕ) (k : ℕ) → p (get_or l k 0) ≡ true → k < length l
@@ -156,9 +157,9 @@ opening_inside l =
     s = run_within is_white l (name_end l (white_end l 0)) e refl
 
     by : (x y z : Bool) → is_sign (get_or l (white_end l (name_end l (white_end l 0))) 0) ≡ z
-        → Inside (length l) (pick x Nothing (pick y (Bad (fault 7 (white_end l 0)))
-        (pick z (Named (record { from = white_end l 0; end = name_end l (white_end l 0); value = white_end l (name_end l (white_end l 0)) + 1 }))
-        (Bad (fault 7 (white_end l (name_end l (white_end l 0))))))))
+        → Inside (length l) (pick x (Ok None) (pick y (Err (fault 7 (white_end l 0)))
+        (pick z (Ok (Some (record { from = white_end l 0; end = name_end l (white_end l 0); value = white_end l (name_end l (white_end l 0)) + 1 })))
+        (Err (fault 7 (white_end l (name_end l (white_end l 0))))))))
     by true y z h = tt
     by false true z h = a
     by false false true h = (a, omega (arith, class_inside is_sign refl l (white_end l (name_end l (white_end l 0))) h))

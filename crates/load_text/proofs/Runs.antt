@@ -9,7 +9,7 @@ use Rattle.base.proofs.Counting.{drop_more}
 use Rattle.base.specs.Folds.{pick}
 use Rattle.load_text.specs.Bytes.{is_bad, is_newline, run}
 use Rattle.load_text.specs.Lines.{fault, bad_from, line_from, column_from}
-use Rattle.load_text.specs.declared.Verdict.TheVariants.{Good, Bad}
+use Rattle.std.specs.Prelude.{Ok, Err}
 
 module _ (p : ℕ → Bool) (s : List ℕ) (k : ℕ) where
   pub run_end : length s ≤ k → run p (drop k s) ≡ 0
@@ -34,12 +34,12 @@ pub run_within : (p : ℕ → Bool) (s : List ℕ) (i : ℕ) {e : ℕ} → i ≤
 run_within p s i h q = omega (arith, run_fits p (drop i s), length-drop i s)
 
 module _ (i : ℕ) (s : List ℕ) (k : ℕ) where
-  pub bad_end : length s ≤ k → bad_from i (drop k s) ≡ Good
+  pub bad_end : length s ≤ k → bad_from i (drop k s) ≡ Ok tt
   unfolding bad_from
   bad_end h = rw (drop_of_length-le s h)
 
   pub bad_next : {t : Bool} → k < length s → is_bad (get_or s k 0) ≡ t
-      → bad_from i (drop k s) ≡ pick t (Bad (fault 6 i)) (bad_from (i + 1) (drop (k + 1) s))
+      → bad_from i (drop k s) ≡ pick t (Err (fault 6 i)) (bad_from (i + 1) (drop (k + 1) s))
   unfolding bad_from
   bad_next h e = rw (drop_more s k 0 h, e)
 

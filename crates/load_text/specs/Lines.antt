@@ -1,12 +1,9 @@
 -- Trusted: "Reading a text": the lines, how a line begins, the first bad byte, and the line and column of an offset.
-use Rattle.std.specs.Prelude.{ℕ, ◌+◌, Bool, ◌||◌, List, [], ◌∷◌, eqb, leb, length, get_or, take, drop}
+use Rattle.std.specs.Prelude.{ℕ, ◌+◌, Bool, ◌||◌, List, [], ◌∷◌, Option, Some, None, Result, Ok, Err, eqb, leb, length, get_or, take, drop}
 use Rattle.base.specs.Folds.{pick}
 use Rattle.load_text.specs.Bytes.{is_white, is_newline, is_bad, is_property_byte, is_sign, run}
 use Rattle.load_text.specs.declared.Fault.{Fault}
-use Rattle.load_text.specs.declared.Verdict.{Verdict}
-use Rattle.load_text.specs.declared.Verdict.TheVariants.{Good, Bad}
-use Rattle.load_text.specs.declared.Opening.{Opening}
-use Rattle.load_text.specs.declared.Opening.TheVariants.{Nothing, Named, Bad as BadOpening}
+use Rattle.load_text.specs.declared.Places.{Places}
 
 -- the bytes before the first newline
 unfoldable pub line_of : List ℕ → List ℕ
@@ -26,9 +23,9 @@ abbrev pub fault : ℕ → ℕ → Fault
 fault n i = record { number = n; at = i }
 
 -- 6: "bad byte", over the whole text; i is the offset of what is left
-unfoldable pub bad_from : ℕ → List ℕ → Verdict
-bad_from i [] = Good
-bad_from i (b ∷ bs) = pick (is_bad b) (Bad (fault 6 i)) (bad_from (i + 1) bs)
+unfoldable pub bad_from : ℕ → List ℕ → Result (Unit {0}) Fault
+bad_from i [] = Ok tt
+bad_from i (b ∷ bs) = pick (is_bad b) (Err (fault 6 i)) (bad_from (i + 1) bs)
 
 -- "lines from 1": the line after these bytes, of which the first stands in line k
 unfoldable pub line_from : ℕ → List ℕ → ℕ
@@ -60,13 +57,14 @@ abbrev pub white_end : List ℕ → ℕ → ℕ
 white_end l a = a + run is_white (drop a l)
 
 -- "Otherwise: optional white space, a property name .., optional white space, `=` or `:`, the value"; 7 "for name and sign"
-abbrev pub named : List ℕ → ℕ → ℕ → ℕ → Opening
+abbrev pub named : List ℕ → ℕ → ℕ → ℕ → Result (Option Places) Fault
 named l a e s =
-    pick (eqb a e) (BadOpening (fault 7 a))
-    (pick (is_sign (get_or l s 0)) (Named (record { from = a; end = e; value = s + 1 })) (BadOpening (fault 7 s)))
+    pick (eqb a e) (Err (fault 7 a))
+    (pick (is_sign (get_or l s 0)) (Ok (Some (record { from = a; end = e; value = s + 1 }))) (Err (fault 7 s)))
 
-unfoldable pub opening : List ℕ → Opening
+-- a line that says nothing names nothing
+unfoldable pub opening : List ℕ → Result (Option Places) Fault
 opening l =
     let a = white_end l 0 in
     let e = name_end l a in
-    pick (says_nothing l a) Nothing (named l a e (white_end l e))
+    pick (says_nothing l a) (Ok None) (named l a e (white_end l e))

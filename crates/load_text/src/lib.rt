@@ -16,27 +16,12 @@ pub struct Fault {
     pub at: usize,
 }
 
-// The outcome of a check: good, or its first fault.
-#[derive(Clone, Copy)]
-pub enum Verdict {
-    Good,
-    Bad(Fault),
-}
-
 // Where a line's property name begins and ends, and where its value begins.
 #[derive(Clone, Copy)]
 pub struct Places {
     pub from: usize,
     pub end: usize,
     pub value: usize,
-}
-
-// How a line begins: it says nothing, has a name and a sign, or is malformed.
-#[derive(Clone, Copy)]
-pub enum Opening {
-    Nothing,
-    Named(Places),
-    Bad(Fault),
 }
 
 pub fn is_white(b: u8) -> bool
@@ -183,20 +168,20 @@ fn name_end(s: &[u8], i: usize) -> usize
 
 // The first bad byte. Paper 01 asks for a nested walk over lines and bytes, left from inside by a label that carries number and place: "The
 // first bad byte of the first bad line decides".
-pub fn first_bad(s: &[u8]) -> Verdict
+pub fn first_bad(s: &[u8]) -> Result<(), Fault>
     ensures { result ≡ bad_from 0 s.now }
 {
     let mut i: usize = 0;
     let found = 'lines: loop {
         if s.len() <= i {
-            break 'lines Verdict::Good;
+            break 'lines Ok(());
         }
         while i < s.len() {
             let b = s[i];
             let bad = is_bad(b);
             let ends = b == b'\n';
             if bad {
-                break 'lines Verdict::Bad(Fault { number: 6, at: i });
+                break 'lines Err(Fault { number: 6, at: i });
             }
             i += 1;
             if ends {
@@ -259,8 +244,8 @@ pub fn column_number(s: &[u8], at: usize) -> usize
     column_after(head(s, at))
 }
 
-// How a line begins.
-pub fn opening_of(line: &[u8]) -> Opening
+// How a line begins: with its places where it has a name and a sign, with none where it says nothing.
+pub fn opening_of(line: &[u8]) -> Result<Option<Places>, Fault>
     ensures { result ≡ opening line.now }
 {
     let from = white_end(line, 0);
@@ -272,18 +257,18 @@ pub fn opening_of(line: &[u8]) -> Opening
     let nothing = (line.len() <= from) | (first == b'#');
     let nameless = from == end;
     if nothing {
-        return Opening::Nothing;
+        return Ok(None);
     }
     if nameless {
-        return Opening::Bad(Fault {
+        return Err(Fault {
             number: 7,
             at: from,
         });
     }
     if signed {
-        return Opening::Named(Places { from, end, value });
+        return Ok(Some(Places { from, end, value }));
     }
-    Opening::Bad(Fault {
+    Err(Fault {
         number: 7,
         at: sign,
     })
