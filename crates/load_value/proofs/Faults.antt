@@ -11,14 +11,12 @@ use lib.Seq.{drop-drop, get_or-drop}
 use Rattle.base.proofs.Tests.{no_ft, not_both}
 use Rattle.base.specs.Folds.{pick}
 use Rattle.load_text.specs.Bytes.{is_white}
-use Rattle.load_text.specs.declared.Verdict.{Verdict}
-use Rattle.load_text.specs.declared.Verdict.TheVariants.{Good, Bad}
+use Rattle.std.specs.Prelude.{Result, Ok, Err}
+use Rattle.load_text.specs.declared.Fault.{Fault}
 use Rattle.load_value.specs.declared.Mode.{Mode}
 use Rattle.load_value.specs.declared.Step.{Step}
 use Rattle.load_value.specs.declared.Step.TheVariants.{Skip, Quote, Keep, Close, Malformed}
 use Rattle.load_value.specs.declared.Sizes.{Sizes}
-use Rattle.load_value.specs.declared.Scan.{Scan}
-use Rattle.load_value.specs.declared.Scan.TheVariants.{Tokens, Bad as BadValue}
 use Rattle.load_value.specs.Quotes.{closes, closes_from}
 use Rattle.load_value.specs.Steps.{between, in_token, in_comment, bare_step, quote_step, step_of}
 use Rattle.load_value.specs.Values.{onward, fault_from, marks_from, no_sizes, sizes_from, scanned, scan_of}
@@ -29,9 +27,9 @@ pub data Deciding (v : List ℕ) (at : ℕ) : ℕ → Type 0 where
   quote : get_or v at 0 ≡ 34 → closes (drop (at + 1) v) ≡ false → Deciding v at 8
   backslash : get_or v at 0 ≡ 92 → at + 1 ≡ length v → Deciding v at 9
 
-abbrev Faulty : List ℕ → Verdict → Type 0
-Faulty v Good = Unit {0}
-Faulty v (Bad f) = Deciding v f.at f.number
+abbrev Faulty : List ℕ → Result (Unit {0}) Fault → Type 0
+Faulty v (Ok tt) = Unit {0}
+Faulty v (Err f) = Deciding v f.at f.number
 
 -- i bytes of the value are read, and l is left: in quotes q is the place of the quote, and it is closed where what is left closes it; after a
 -- backslash the last byte is one
@@ -126,7 +124,7 @@ faults_in v m q i [] h is few = by m.escaped refl m.quoted refl
     shut true = refl
     shut false = refl
 
-    by : (a : Bool) → m.escaped ≡ a → (b : Bool) → m.quoted ≡ b → Faulty v (pick a (Bad (record { number = 9; at = i - 1 })) (pick b (Bad (record { number = 8; at = q })) Good))
+    by : (a : Bool) → m.escaped ≡ a → (b : Bool) → m.quoted ≡ b → Faulty v (pick a (Err (record { number = 9; at = i - 1 })) (pick b (Err (record { number = 8; at = q })) (Ok tt)))
     by true e b f = backslash (h.escaped e).1 (omega (arith, long, (h.escaped e).0))
     by false e true f = quote (h.quoted f) (h.open_on f ∙ shut m.escaped)
     by false e false f = tt
@@ -148,15 +146,15 @@ faults_in v m q i (b ∷ bs) h is few =
     go (Close m') k on = on m' q k
     go Malformed k on = hash k
 
-abbrev pub ScanFaulty : List ℕ → Scan → Type 0
-ScanFaulty v (Tokens z) = Unit {0}
-ScanFaulty v (BadValue f) = Deciding v f.at f.number
+abbrev pub ScanFaulty : List ℕ → Result Sizes Fault → Type 0
+ScanFaulty v (Ok z) = Unit {0}
+ScanFaulty v (Err f) = Deciding v f.at f.number
 
 pub scan_faulty : (v : List ℕ) → ScanFaulty v (scan_of v)
 unfolding scan_of
 scan_faulty v =
     go (fault_from between 0 0 v) (sizes_from no_sizes (marks_from between v)) (faults_in v between 0 0 v (plain v v 0 0 between refl refl) refl zero-le)
   where
-    go : (x : Verdict) (z : Sizes) → Faulty v x → ScanFaulty v (scanned x z)
-    go Good z h = tt
-    go (Bad f) z h = h
+    go : (x : Result (Unit {0}) Fault) (z : Sizes) → Faulty v x → ScanFaulty v (scanned x z)
+    go (Ok tt) z h = tt
+    go (Err f) z h = h

@@ -11,8 +11,8 @@ use Rattle.load_value.specs.declared.Mode.{Mode}
 use Rattle.load_value.specs.declared.Step.{Step}
 use Rattle.load_value.specs.declared.Step.TheVariants.{Skip, Quote, Keep, Close, Malformed}
 use Rattle.load_value.specs.declared.Sizes.{Sizes}
-use Rattle.load_value.specs.declared.Scan.{Scan}
-use Rattle.load_value.specs.declared.Scan.TheVariants.{Bad as BadValue}
+use Rattle.std.specs.Prelude.{Result, Err}
+use Rattle.load_text.specs.declared.Fault.{Fault}
 use Rattle.load_value.specs.Steps.{between, step_of}
 use Rattle.load_value.specs.Stores.{Put, Puts}
 use Rattle.load_value.specs.Values.{kept, close, ended, counted, no_sizes, scanned, scan_of, written, longest_word, word_of}
@@ -36,7 +36,7 @@ module _ {s : List ℕ} {m : Mode} {z : Sizes} {q i : ℕ} (k : Told s m z q i) 
   pub told_room : length s * 1 < 9223372036854775808 → z.room < 9223372036854775808
   told_room n = omega (arith, k.fits.room, k.within)
 
-  pub told_end : {v : Scan} → length s ≤ i → v ≡ scanned (ended m q i) (pick m.token (counted z close) z) → v ≡ scan_of s
+  pub told_end : {v : Result Sizes Fault} → length s ≤ i → v ≡ scanned (ended m q i) (pick m.token (counted z close) z) → v ≡ scan_of s
   told_end h e = e ∙ sym (k.rest ∙ scan_end m q i z s i h)
 
   module _ {r : Step} (h : i < length s) (e : r ≡ step_of m (get_or s i 0)) where
@@ -55,7 +55,7 @@ module _ {s : List ℕ} {m : Mode} {z : Sizes} {q i : ℕ} (k : Told s m z q i) 
     pub told_close : {m' : Mode} {z' : Sizes} → r ≡ Close m' → z' ≡ counted z close → Told s m' z' q (i + 1)
     told_close g u = record { within = omega arith; fits = fits_end k.fits u; rest = rw u (told_on g) }
 
-    pub told_bad : r ≡ Malformed → BadValue (fault 7 i) ≡ scan_of s
+    pub told_bad : r ≡ Malformed → Err (fault 7 i) ≡ scan_of s
     told_bad g = sym (told_on g)
 
 -- ---- the tokens written from the start of d₀ on, up to the place o of d

@@ -10,29 +10,27 @@ use Rattle.base.proofs.Counting.{drop_more, one_left}
 use Rattle.base.specs.Folds.{pick}
 use native.Mathlib.Nat.{zero-add}
 use Rattle.load_text.specs.Lines.{fault}
-use Rattle.load_text.specs.declared.Verdict.{Verdict}
-use Rattle.load_text.specs.declared.Verdict.TheVariants.{Good, Bad}
+use Rattle.std.specs.Prelude.{Result, Ok, Err}
+use Rattle.load_text.specs.declared.Fault.{Fault}
 use Rattle.load_value.specs.declared.Mode.{Mode}
 use Rattle.load_value.specs.declared.Step.{Step}
 use Rattle.load_value.specs.declared.Step.TheVariants.{Skip, Quote, Keep, Close, Malformed}
 use Rattle.load_value.specs.declared.Sizes.{Sizes}
-use Rattle.load_value.specs.declared.Scan.{Scan}
-use Rattle.load_value.specs.declared.Scan.TheVariants.{Tokens, Bad as BadValue}
 use Rattle.load_value.specs.Steps.{between, step_of}
 use Rattle.load_value.specs.Values.{Mark, kept, close, ended, onward, fault_from, marked, marks_from, byte_of}
 use Rattle.load_value.specs.Values.{counted, no_sizes, sizes_from, scanned, scan_of, longest_word, word_room, leading, word_of}
 
 -- the answer for what is left, from the mode, the last quote, the place and the sizes so far
-abbrev pub scan_from : Mode → ℕ → ℕ → Sizes → List ℕ → Scan
+abbrev pub scan_from : Mode → ℕ → ℕ → Sizes → List ℕ → Result Sizes Fault
 scan_from m q i z l = scanned (fault_from m q i l) (sizes_from z (marks_from m l))
 
 -- what a step makes of it
-abbrev pub scan_on : Step → ℕ → ℕ → Sizes → List ℕ → Scan
+abbrev pub scan_on : Step → ℕ → ℕ → Sizes → List ℕ → Result Sizes Fault
 scan_on (Skip m) q i z l = scan_from m q (i + 1) z l
 scan_on (Quote m) q i z l = scan_from m i (i + 1) z l
 scan_on (Keep m) q i z l = scan_from m q (i + 1) (counted z (kept 0)) l
 scan_on (Close m) q i z l = scan_from m q (i + 1) (counted z close) l
-scan_on Malformed q i z l = BadValue (fault 7 i)
+scan_on Malformed q i z l = Err (fault 7 i)
 
 module _ (m : Mode) (q i : ℕ) (z : Sizes) (s : List ℕ) (k : ℕ) where
   pub scan_end : length s ≤ k → scan_from m q i z (drop k s) ≡ scanned (ended m q i) (pick m.token (counted z close) z)
@@ -185,13 +183,13 @@ unfolding word_of
 word_fits l = leading_fits word_room (marks_from between l)
 
 -- a fault is met within n bytes
-abbrev pub FaultInside : ℕ → Verdict → Type 0
-FaultInside n Good = Unit {0}
-FaultInside n (Bad f) = f.at ≤ n
+abbrev pub FaultInside : ℕ → Result (Unit {0}) Fault → Type 0
+FaultInside n (Ok tt) = Unit {0}
+FaultInside n (Err f) = f.at ≤ n
 
-abbrev pub ScanInside : ℕ → Scan → Type 0
-ScanInside n (Tokens z) = Unit {0}
-ScanInside n (BadValue f) = f.at ≤ n
+abbrev pub ScanInside : ℕ → Result Sizes Fault → Type 0
+ScanInside n (Ok z) = Unit {0}
+ScanInside n (Err f) = f.at ≤ n
 
 fault_inside : (l : List ℕ) (m : Mode) (q i : ℕ) → q ≤ i → FaultInside (i + length l) (fault_from m q i l)
 unfolding fault_from
@@ -222,6 +220,6 @@ scan_inside l =
     by (fault_from between 0 0 l) (sizes_from no_sizes (marks_from between l))
     (subst (λ (n : ℕ). FaultInside n (fault_from between 0 0 l)) (zero-add (length l)) (fault_inside l between 0 0 zero-le))
   where
-    by : (v : Verdict) (z : Sizes) → FaultInside (length l) v → ScanInside (length l) (scanned v z)
-    by Good z h = tt
-    by (Bad f) z h = h
+    by : (v : Result (Unit {0}) Fault) (z : Sizes) → FaultInside (length l) v → ScanInside (length l) (scanned v z)
+    by (Ok tt) z h = tt
+    by (Err f) z h = h

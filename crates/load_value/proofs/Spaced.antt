@@ -11,13 +11,12 @@ use borrow.Author.Tests.{eqb-true, eqb-false, leb-true, leb-false, ltb-true, ltb
 use Rattle.base.proofs.Tests.{no_ft, no_tf, and_true, or_all}
 use Rattle.base.specs.Folds.{pick}
 use Rattle.load_text.specs.Bytes.{is_white}
-use Rattle.load_text.specs.declared.Verdict.{Verdict}
-use Rattle.load_text.specs.declared.Verdict.TheVariants.{Good, Bad}
+use Rattle.std.specs.Prelude.{Result, Ok, Err}
+use Rattle.load_text.specs.declared.Fault.{Fault}
 use Rattle.load_value.specs.declared.Mode.{Mode}
 use Rattle.load_value.specs.declared.Step.{Step}
 use Rattle.load_value.specs.declared.Step.TheVariants.{Skip, Quote, Keep, Close, Malformed}
 use Rattle.load_value.specs.declared.Sizes.{Sizes}
-use Rattle.load_value.specs.declared.Scan.TheVariants.{Tokens}
 use Rattle.load_value.specs.Steps.{between, in_token, escaping, in_comment, bare_step, step_of}
 use Rattle.load_value.specs.Values.{Mark, kept, close, onward, fault_from, marked, marks_from, byte_of, written, joined, spaced}
 use Rattle.load_value.specs.Values.{counted, no_sizes, sizes_from, scan_of, longest_word, word_room, is_word, leading, word_of}
@@ -77,11 +76,11 @@ step_onward m b o = by m.comment m.escaped (eqb b 92) (eqb b 34) m.quoted refl
     by false false false false true h = (o, o h)
     by false false false false false h = bare_onward m b
 
-abbrev is_good : Verdict → Bool
-is_good Good = true
-is_good (Bad f) = false
+abbrev is_good : Result (Unit {0}) Fault → Bool
+is_good (Ok tt) = true
+is_good (Err f) = false
 
-marks_closed : (l : List ℕ) (m : Mode) (q i : ℕ) → Open m → fault_from m q i l ≡ Good → closed_from m.token (marks_from m l) ≡ true
+marks_closed : (l : List ℕ) (m : Mode) (q i : ℕ) → Open m → fault_from m q i l ≡ Ok tt → closed_from m.token (marks_from m l) ≡ true
 unfolding fault_from marks_from closed_from
 marks_closed [] m q i o g = by m.token
   where
@@ -91,8 +90,8 @@ marks_closed [] m q i o g = by m.token
 marks_closed (b ∷ bs) m q i o g = by (step_of m b) (step_onward m b o) (λ n p. marks_closed bs n p (i + 1)) g
   where
     by : (r : Step) → Onward m r
-        → ((n : Mode) (p : ℕ) → Open n → fault_from n p (i + 1) bs ≡ Good → closed_from n.token (marks_from n bs) ≡ true)
-        → onward r q i (λ n p. fault_from n p (i + 1) bs) ≡ Good → closed_from m.token (marked r b (λ n. marks_from n bs)) ≡ true
+        → ((n : Mode) (p : ℕ) → Open n → fault_from n p (i + 1) bs ≡ Ok tt → closed_from n.token (marks_from n bs) ≡ true)
+        → onward r q i (λ n p. fault_from n p (i + 1) bs) ≡ Ok tt → closed_from m.token (marked r b (λ n. marks_from n bs)) ≡ true
     by (Skip n) k on h = closed_any m.token n.token (marks_from n bs) k.1 (on n q k.0 h)
     by (Quote n) k on h = closed_any m.token n.token (marks_from n bs) k.1 (on n i k.0 h)
     by (Keep n) k on h = closed_any true n.token (marks_from n bs) (λ u. k.1) (on n q k.0 h)
@@ -207,7 +206,7 @@ module _ (w : List ℕ) where
   no_word_space : has_space w ≡ true → no_word w ≡ true
   no_word_space e = rw e (or_all (eqb (length w) 0 || ltb longest_word (length w)))
 
-module _ (v : List ℕ) {z : Sizes} (e : scan_of v ≡ Tokens z) where
+module _ (v : List ℕ) {z : Sizes} (e : scan_of v ≡ Ok z) where
   all_closed : closed_from false (marks_from between v) ≡ true
   all_closed = marks_closed v between 0 0 (λ q. no_ft q) (scan_counted v e).good
 

@@ -4,8 +4,9 @@ use Prim.Native.String.{String}
 use Rattle.base.specs.Folds.{pick}
 use Rattle.load_text.specs.Strings.{bytes}
 use Rattle.load_text.specs.Lines.{fault}
-use Rattle.load_value.specs.declared.Scan.{Scan}
-use Rattle.load_value.specs.declared.Scan.TheVariants.{Tokens as Good, Bad}
+use Rattle.std.specs.Prelude.{Result, Ok, Err}
+use Rattle.load_text.specs.declared.Fault.{Fault}
+use Rattle.load_value.specs.declared.Sizes.{Sizes}
 use Rattle.load_value.specs.Steps.{step_of, bare_step}
 use Rattle.load_value.specs.Quotes.{closes, closes_from}
 use Rattle.load_value.specs.Values.{fault_from, marks_from, sizes_from, scan_of, written}
@@ -13,18 +14,18 @@ use Rattle.load_value.specs.Values.{fault_from, marks_from, sizes_from, scan_of,
 -- a value: what the scan says, and its tokens with a slash for each zero byte, so that they show
 pub record Example : Type 0 where
   pub value : String
-  pub scan : Scan
+  pub scan : Result Sizes Fault
   pub tokens : String
 
 pub record Outcome : Type 0 where
-  pub scan : Scan
+  pub scan : Result Sizes Fault
   pub tokens : List ℕ
 
-abbrev tokens : ℕ → ℕ → ℕ → Scan
-tokens n r f = Good (record { tokens = n; room = r; first = f })
+abbrev tokens : ℕ → ℕ → ℕ → Result Sizes Fault
+tokens n r f = Ok (record { tokens = n; room = r; first = f })
 
-abbrev refused : ℕ → ℕ → Scan
-refused n i = Bad (fault n i)
+abbrev refused : ℕ → ℕ → Result Sizes Fault
+refused n i = Err (fault n i)
 
 abbrev pub examples : List Example
 examples =

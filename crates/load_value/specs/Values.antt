@@ -3,31 +3,29 @@ use Rattle.std.specs.Prelude.{ℕ, zero, suc, ◌+◌, ◌-◌, Bool, ◌&&◌, 
 use Rattle.base.specs.Folds.{pick}
 use Rattle.load_text.specs.Bytes.{longest_name}
 use Rattle.load_text.specs.Lines.{fault}
-use Rattle.load_text.specs.declared.Verdict.{Verdict}
-use Rattle.load_text.specs.declared.Verdict.TheVariants.{Good, Bad}
+use Rattle.std.specs.Prelude.{Result, Ok, Err}
+use Rattle.load_text.specs.declared.Fault.{Fault}
 use Rattle.load_value.specs.declared.Mode.{Mode}
 use Rattle.load_value.specs.declared.Step.{Step}
 use Rattle.load_value.specs.declared.Step.TheVariants.{Skip, Quote, Keep, Close, Malformed}
 use Rattle.load_value.specs.declared.Sizes.{Sizes}
-use Rattle.load_value.specs.declared.Scan.{Scan}
-use Rattle.load_value.specs.declared.Scan.TheVariants.{Tokens, Bad as BadValue}
 use Rattle.load_value.specs.Steps.{between, step_of}
 
 -- ---- faults: "value from left (7, 9, at its end 8)"
 
 -- at the end, i bytes from the value's start: 9 "a value's backslash at line or text end", 8 "quote open at line end"
-abbrev pub ended : Mode → ℕ → ℕ → Verdict
-ended m q i = pick m.escaped (Bad (fault 9 (i - 1))) (pick m.quoted (Bad (fault 8 q)) Good)
+abbrev pub ended : Mode → ℕ → ℕ → Result (Unit {0}) Fault
+ended m q i = pick m.escaped (Err (fault 9 (i - 1))) (pick m.quoted (Err (fault 8 q)) (Ok tt))
 
 -- the way on after a step: q is where the last quoted stretch was opened
-abbrev pub onward : Step → ℕ → ℕ → (Mode → ℕ → Verdict) → Verdict
+abbrev pub onward : Step → ℕ → ℕ → (Mode → ℕ → Result (Unit {0}) Fault) → Result (Unit {0}) Fault
 onward (Skip m) q i on = on m q
 onward (Quote m) q i on = on m i
 onward (Keep m) q i on = on m q
 onward (Close m) q i on = on m q
-onward Malformed q i on = Bad (fault 7 i)
+onward Malformed q i on = Err (fault 7 i)
 
-unfoldable pub fault_from : Mode → ℕ → ℕ → List ℕ → Verdict
+unfoldable pub fault_from : Mode → ℕ → ℕ → List ℕ → Result (Unit {0}) Fault
 fault_from m q i [] = ended m q i
 fault_from m q i (b ∷ bs) = onward (step_of m b) q i (λ m' q'. fault_from m' q' (i + 1) bs)
 
@@ -84,12 +82,12 @@ unfoldable pub sizes_from : Sizes → List Mark → Sizes
 sizes_from z [] = z
 sizes_from z (k ∷ ks) = sizes_from (counted z k) ks
 
-abbrev pub scanned : Verdict → Sizes → Scan
-scanned Good z = Tokens z
-scanned (Bad f) z = BadValue f
+abbrev pub scanned : Result (Unit {0}) Fault → Sizes → Result Sizes Fault
+scanned (Ok tt) z = Ok z
+scanned (Err f) z = Err f
 
 -- a value: the number and the sizes of its tokens, or its first fault
-unfoldable pub scan_of : List ℕ → Scan
+unfoldable pub scan_of : List ℕ → Result Sizes Fault
 scan_of l = scanned (fault_from between 0 0 l) (sizes_from no_sizes (marks_from between l))
 
 -- "there is a first token and it is not empty"

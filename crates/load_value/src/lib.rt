@@ -52,13 +52,6 @@ pub struct Sizes {
     pub first: usize,
 }
 
-// What a value is: its tokens, or its first fault.
-#[derive(Clone, Copy)]
-pub enum Scan {
-    Tokens(Sizes),
-    Bad(Fault),
-}
-
 // A byte outside quotes that is neither escaped nor a backslash nor a quote.
 fn bare_step(m: Mode, b: u8) -> Step
     ensures { result ≡ bare_step m b }
@@ -183,30 +176,30 @@ fn before(i: usize) -> usize
 }
 
 // What a value is that ends in a mode, at a place, with its last quote and its sizes so far. A last backslash comes before an open quote.
-fn ended(m: Mode, quote: usize, end: usize, z: Sizes) -> Scan
+fn ended(m: Mode, quote: usize, end: usize, z: Sizes) -> Result<Sizes, Fault>
     requires { (z.room < 9223372036854775808) × (z.tokens ≤ z.room) }
     ensures { result ≡ scanned (ended m quote end) (pick m.token (counted z close) z) }
 {
     if m.escaped {
-        return Scan::Bad(Fault {
+        return Err(Fault {
             number: 9,
             at: before(end),
         });
     }
     if m.quoted {
-        return Scan::Bad(Fault {
+        return Err(Fault {
             number: 8,
             at: quote,
         });
     }
     if m.token {
-        return Scan::Tokens(with_end(z));
+        return Ok(with_end(z));
     }
-    Scan::Tokens(z)
+    Ok(z)
 }
 
-// What a value is: its tokens, or its first fault.
-pub fn scan_value(s: &[u8]) -> Scan
+// What a value is: the sizes of its tokens, or its first fault.
+pub fn scan_value(s: &[u8]) -> Result<Sizes, Fault>
     ensures { result ≡ scan_of s.now }
 {
     let mut m = Mode::BETWEEN;
@@ -237,7 +230,7 @@ pub fn scan_value(s: &[u8]) -> Scan
                 m = k;
             }
             Step::Malformed => {
-                return Scan::Bad(Fault { number: 7, at: i });
+                return Err(Fault { number: 7, at: i });
             }
         }
         i = after;
