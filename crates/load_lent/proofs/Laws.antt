@@ -1,23 +1,23 @@
 -- The laws of the lent positions, names and sizes, as loops go through them.
-use Prim.Native.Nat.{◌*◌, ◌+◌, ◌-◌, ◌/◌, ◌<◌, ◌≤◌, ℕ}
-use borrow.Author.Tests.{le-leb, le-ltb, lt-ltb, ne_eqb}
+use Prim.Native.Nat.{◌*◌, ◌+◌, ◌-◌, ◌<◌, ◌≤◌, ℕ}
+use borrow.Author.Tests.{le-leb, le-ltb, lt-ltb}
 use lib.Dec.{eqb, leb, ltb}
-use lib.ListN.{get_or-eq_default, drop, drop_of_length-le, get_or, length}
+use lib.ListN.{get_or-eq_default, drop, drop_of_length-le, get_or, length, take}
 use mathlib.Core.Bool.{Bool, ◌&&◌, false, true}
-use mathlib.Core.List.{List}
-use mathlib.Core.Path.{◌∙◌, ◌≡◌, sym}
+use mathlib.Core.List.{List, []}
+use mathlib.Core.Path.{◌∙◌, ◌≡◌, ap, refl, sym}
 use native.Mathlib.Nat.{sub-zero}
 use native.Mathlib.Omega.{arith}
+use Rattle.std.specs.Prelude.{Ok, Err}
 use Rattle.base.proofs.Counting.{drop_more, one_left}
 use Rattle.base.proofs.Tests.{or_all}
-use Rattle.load_text.specs.Lines.{column_number, line_number}
-use Rattle.load_text.specs.declared.Fault.{Fault}
+use Rattle.base.specs.Folds.{pick}
+use Rattle.load_text.specs.Strings.{part_of}
 use Rattle.load_word.specs.Words.{is_name}
 use Rattle.load_lent.specs.Checks.{find, longest_text, longest_texts, names_from, sizes_from}
-use Rattle.load_lent.specs.Parts.{name_start, rises_to, service_count, within}
-use Rattle.load_lent.specs.Refusals.{bare, has_byte, refused_in}
-use Rattle.load_lent.specs.declared.Answer.{Answer}
-use Rattle.load_lent.specs.declared.Answer.TheVariants.{Accepted, Refused}
+use Rattle.load_lent.specs.Parts.{name_at, name_start, rises_to, text_at, service_count, within}
+use Rattle.load_lent.specs.Refusals.{bare}
+use Rattle.load_lent.specs.declared.Refused.{Refused}
 
 -- ---- the positions
 
@@ -32,16 +32,29 @@ module _ (m p : ℕ) (s : List ℕ) (k : ℕ) where
 
 -- ---- past the last service
 
-pub past_last : (s : List ℕ) (j : ℕ) → length s / 2 < j → (get_or s (2 * j) 0 ≡ 0) × (get_or s (2 * j + 1) 0 ≡ 0) × (name_start s j ≡ 0)
-unfolding name_start
-past_last s j h = (
-  get_or-eq_default s 0 (omega arith),
-  get_or-eq_default s 0 (omega arith),
-  rw (ne_eqb j 0 (λ e. absurd (omega arith))) (get_or-eq_default s 0 (omega arith)),
-)
+-- a part that ends where the bytes begin
+part_none : (l : List ℕ) (a : ℕ) → [] ≡ part_of l a 0
+unfolding part_of
+part_none l a = by (leb a 0) (leb 0 (length l))
+  where
+    none : [] ≡ take (0 - a) (drop a l)
+    none =
+        let z : 0 - a ≡ 0 = omega arith in
+        rw z
 
-pub past_even : (s : List ℕ) (j : ℕ) → length s ≤ 2 * j → get_or s (2 * j + 1) 0 ≡ 0
-past_even s j h = get_or-eq_default s 0 (omega arith)
+    by : (x y : Bool) → [] ≡ pick x (pick y (take (0 - a) (drop a l)) []) []
+    by true true = none
+    by true false = refl
+    by false y = refl
+
+pub name_past : (lent ends : List ℕ) (j : ℕ) → service_count ends < j → [] ≡ name_at lent ends j
+unfolding name_at
+name_past lent ends j h = part_none lent (name_start ends j) ∙ ap (part_of lent (name_start ends j)) (sym (get_or-eq_default ends 0 (omega arith)))
+
+pub text_past : (lent ends : List ℕ) (j : ℕ) → service_count ends ≤ j → [] ≡ text_at lent ends j
+unfolding text_at
+text_past lent ends j h =
+    part_none lent (get_or ends (2 * j) 0) ∙ ap (part_of lent (get_or ends (2 * j) 0)) (sym (get_or-eq_default ends 0 (omega arith)))
 
 -- of services lent there are as many as are asked for
 pub within_few : (n : ℕ) (ends : List ℕ) → n ≤ service_count ends → within n ends ≡ n
@@ -57,21 +70,21 @@ pub names_none : (name : ℕ → List ℕ) (n : ℕ) → NamesLeft name n 0
 names_none name n = record { within = omega arith; rest = rw (sub-zero n) }
 
 module _ {name : ℕ → List ℕ} {n j : ℕ} (k : NamesLeft name n j) where
-  pub names_all : n ≤ j → Accepted ≡ names_from name 0 n
+  pub names_all : n ≤ j → Ok tt ≡ names_from name 0 n
   unfolding names_from
   names_all h =
       let z : n - j ≡ 0 = omega arith in
       sym (k.rest ∙ rw z)
 
   module _ (l : j < n) {w : List ℕ} (is : w ≡ name j) {g : Bool} (e : g ≡ is_name w) where
-    pub names_bad : g ≡ false → {r : Answer} → r ≡ bare 3 j → r ≡ names_from name 0 n
+    pub names_bad : g ≡ false → {r : Refused} → r ≡ bare 3 j → Err r ≡ names_from name 0 n
     unfolding names_from
-    names_bad f b = b ∙ sym (k.rest ∙ rw (one_left n j l, ← is, ← e, f))
+    names_bad f b = ap Err b ∙ sym (k.rest ∙ rw (one_left n j l, ← is, ← e, f))
 
     module _ {i : ℕ} (f : g ≡ true) (h : i ≡ find name j w) where
-      pub names_twice : ltb i j ≡ true → {r : Answer} → r ≡ bare 4 j → r ≡ names_from name 0 n
+      pub names_twice : ltb i j ≡ true → {r : Refused} → r ≡ bare 4 j → Err r ≡ names_from name 0 n
       unfolding names_from
-      names_twice t b = b ∙ sym (k.rest ∙ rw (one_left n j l, ← is, ← e, f, ← h, t))
+      names_twice t b = ap Err b ∙ sym (k.rest ∙ rw (one_left n j l, ← is, ← e, f, ← h, t))
 
       pub names_good : ltb i j ≡ false → NamesLeft name n (j + 1)
       unfolding names_from
@@ -88,21 +101,21 @@ pub sizes_none : (text : ℕ → List ℕ) (n : ℕ) → SizesLeft text n 0 0
 sizes_none text n = record { within = omega arith; few = omega arith; rest = rw (sub-zero n) }
 
 module _ {text : ℕ → List ℕ} {n t j : ℕ} (k : SizesLeft text n t j) where
-  pub sizes_all : n ≤ j → Accepted ≡ sizes_from text 0 0 n
+  pub sizes_all : n ≤ j → Ok tt ≡ sizes_from text 0 0 n
   unfolding sizes_from
   sizes_all h =
       let z : n - j ≡ 0 = omega arith in
       sym (k.rest ∙ rw z)
 
   module _ (l : j < n) {w : List ℕ} (is : w ≡ text j) where
-    pub sizes_long : longest_text < length w → {r : Answer} → r ≡ bare 5 j → r ≡ sizes_from text 0 0 n
+    pub sizes_long : longest_text < length w → {r : Refused} → r ≡ bare 5 j → Err r ≡ sizes_from text 0 0 n
     unfolding sizes_from
-    sizes_long h b = b ∙ sym (k.rest ∙ rw (one_left n j l, ← is, lt-ltb longest_text (length w) h))
+    sizes_long h b = ap Err b ∙ sym (k.rest ∙ rw (one_left n j l, ← is, lt-ltb longest_text (length w) h))
 
-    pub sizes_many : longest_texts < t + length w → {r : Answer} → r ≡ bare 5 j → r ≡ sizes_from text 0 0 n
+    pub sizes_many : longest_texts < t + length w → {r : Refused} → r ≡ bare 5 j → Err r ≡ sizes_from text 0 0 n
     unfolding sizes_from
     sizes_many h b =
-        b ∙ sym (k.rest ∙ rw (one_left n j l, ← is, lt-ltb longest_texts (t + length w) h, or_all (ltb longest_text (length w))))
+        ap Err b ∙ sym (k.rest ∙ rw (one_left n j l, ← is, lt-ltb longest_texts (t + length w) h, or_all (ltb longest_text (length w))))
 
     pub sizes_fit : length w ≤ longest_text → t + length w ≤ longest_texts → SizesLeft text n (t + length w) (j + 1)
     unfolding sizes_from
@@ -111,12 +124,3 @@ module _ {text : ℕ → List ℕ} {n t j : ℕ} (k : SizesLeft text n t j) wher
       few = m;
       rest = k.rest ∙ rw (one_left n j l, ← is, le-ltb longest_text (length w) h, le-ltb longest_texts (t + length w) m);
     }
-
--- ---- a fault in a text, with its line and column as the code has them
-
-module _ (text : List ℕ) (j : ℕ) (f : Fault) {l : ℕ} where
-  pub refused_decided : {c : ℕ} → has_byte f.number ≡ true → l ≡ line_number text f.at → c ≡ column_number text f.at → Refused f.number j l c ≡ refused_in text j f
-  refused_decided h p q = rw (h, p, q)
-
-  pub refused_absent : has_byte f.number ≡ false → eqb f.number 15 ≡ true → l ≡ line_number text f.at → Refused f.number j l 1 ≡ refused_in text j f
-  refused_absent h g p = rw (h, g, p)

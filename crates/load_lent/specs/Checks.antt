@@ -1,11 +1,9 @@
 -- Trusted: the names (3, 4) and the sizes (5) of a set, whose names and texts are given by service.
-use Rattle.std.specs.Prelude.{ℕ, zero, suc, ◌+◌, ◌||◌, List, ltb, length}
+use Rattle.std.specs.Prelude.{ℕ, zero, suc, ◌+◌, ◌||◌, List, Ok, Err, ltb, length}
 use Rattle.base.specs.Folds.{pick, first}
 use Rattle.load_text.specs.Strings.{same}
 use Rattle.load_word.specs.Words.{is_name}
-use Rattle.load_lent.specs.declared.Answer.{Answer}
-use Rattle.load_lent.specs.declared.Answer.TheVariants.{Accepted}
-use Rattle.load_lent.specs.Refusals.{bare}
+use Rattle.load_lent.specs.Refusals.{Answer, bare}
 
 -- the service of a name among the first n, or n where it is none of theirs
 unfoldable pub find : (ℕ → List ℕ) → ℕ → List ℕ → ℕ
@@ -13,9 +11,9 @@ find name n w = first (λ i. same w (name i)) n
 
 -- "all names, 3 then 4 each", from service j on with m left; 4: "a name equals an earlier one"
 unfoldable pub names_from : (ℕ → List ℕ) → ℕ → ℕ → Answer
-names_from name j zero = Accepted
+names_from name j zero = Ok tt
 names_from name j (suc m) =
-    pick (is_name (name j)) (pick (ltb (find name j (name j)) j) (bare 4 j) (names_from name (j + 1) m)) (bare 3 j)
+    pick (is_name (name j)) (pick (ltb (find name j (name j)) j) (Err (bare 4 j)) (names_from name (j + 1) m)) (Err (bare 3 j))
 
 -- 5: "a text passes 4,096 bytes, or the running total of texts passes 32,768"
 abbrev pub longest_text : ℕ
@@ -26,7 +24,7 @@ longest_texts = 32768
 
 -- "all texts, 5", from service j on with m left; t is the total before it
 unfoldable pub sizes_from : (ℕ → List ℕ) → ℕ → ℕ → ℕ → Answer
-sizes_from text t j zero = Accepted
+sizes_from text t j zero = Ok tt
 sizes_from text t j (suc m) =
-    pick (ltb longest_text (length (text j)) || ltb longest_texts (t + length (text j))) (bare 5 j)
+    pick (ltb longest_text (length (text j)) || ltb longest_texts (t + length (text j))) (Err (bare 5 j))
     (sizes_from text (t + length (text j)) (j + 1) m)

@@ -1,14 +1,17 @@
 -- Trusted: a refusal as the load answers it: bare, or a fault met in the text of a service, with its line and column where it has them.
-use Rattle.std.specs.Prelude.{ℕ, eqb, leb, Bool, ◌&&◌, ◌||◌, List}
+use Rattle.std.specs.Prelude.{ℕ, eqb, leb, Bool, ◌&&◌, ◌||◌, List, Result}
 use Rattle.base.specs.Folds.{pick}
 use Rattle.load_text.specs.Lines.{column_number, line_number}
 use Rattle.load_text.specs.declared.Fault.{Fault}
-use Rattle.load_lent.specs.declared.Answer.{Answer}
-use Rattle.load_lent.specs.declared.Answer.TheVariants.{Refused}
+use Rattle.load_lent.specs.declared.Refused.{Refused}
+
+-- what a check of a set answers: accepted, or what refuses it
+abbrev pub Answer : Type 0
+Answer = Result (Unit {0}) Refused
 
 -- a refusal that has no line: "column 0 where there is none"
-abbrev pub bare : ℕ → ℕ → Answer
-bare n s = Refused n s 0 0
+abbrev pub bare : ℕ → ℕ → Refused
+bare n s = record { number = n; service = s; line = 0; column = 0 }
 
 -- W-201: "met in a text (6 to 12)": one byte of the text decided it
 abbrev pub has_byte : ℕ → Bool
@@ -23,5 +26,5 @@ abbrev pub column_of_fault : List ℕ → Fault → ℕ
 column_of_fault text f = pick (has_byte f.number) (column_number text f.at) (pick (eqb f.number 15) 1 0)
 
 -- a fault met in the text of service j
-abbrev pub refused_in : List ℕ → ℕ → Fault → Answer
-refused_in text j f = Refused f.number j (line_of_fault text f) (column_of_fault text f)
+abbrev pub refused_in : List ℕ → ℕ → Fault → Refused
+refused_in text j f = record { number = f.number; service = j; line = line_of_fault text f; column = column_of_fault text f }
