@@ -11,3 +11,4 @@ pub mod Filled
 pub mod Links
 pub mod Lists
 pub mod Counting
+pub mod Chains
