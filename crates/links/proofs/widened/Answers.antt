@@ -1,12 +1,11 @@
--- `widened` meets its contract: the numbers below i have brought in their links.
-use Rattle.base.proofs.Loops.{folded_none, folded_more, folded_all}
+-- `widened` meets its contract: `fold` over the range is the fold over the numbers below its end.
+use borrow.Author.Rules.{rules}
+use borrow.Author.Tests.{tests}
+use Rattle.base.specs.Links.{through}
+use Rattle.base.proofs.Chains.{fold_from_fold}
+use Rattle.links.specs.Rows.{rows_as}
 use Rattle.links.proofs.widened.Goals as goal
 
-pub loop-i-init : goal.loop-i-init
-loop-i-init c = folded_none
-
-pub loop-i-preserved : goal.loop-i-preserved
-loop-i-preserved c = search folded_more
-
 pub returns : goal.returns
-returns c = search folded_all
+returns c =
+    fold_from_fold (λ a i. through i a (rows_as c.args.rows.now i)) c.fold.ensures.ran (λ b x a q k. search (rules, tests))
