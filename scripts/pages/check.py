@@ -395,11 +395,12 @@ class Check:
                 self.fault(HOST, f'{line}: the sources have {functions.get(f"{call[1]}::{call[2]}")}')
             if call and call[1] not in HANDED_ON_BY + ('plain',):
                 self.fault(HOST, f'{line}: {call[1]} is a crate that no host names')
-            if re.match(r'(?:struct|enum) ', line) and line.split()[1] not in SKETCHED:
+            declared = re.match(r'(?:struct|enum|type) ([A-Z]\w*)', line)
+            if declared and declared[1] not in SKETCHED:
                 if line not in spoken:
                     self.fault(HOST, f'{line}: the sources have no such type')
-                if not any(f'{crate}::{line.split()[1]}' in types for crate in HANDED_ON_BY):
-                    self.fault(HOST, f'{line.split()[1]} is handed on by neither of {", ".join(HANDED_ON_BY)}')
+                if not any(f'{crate}::{declared[1]}' in types for crate in HANDED_ON_BY):
+                    self.fault(HOST, f'{declared[1]} is handed on by neither of {", ".join(HANDED_ON_BY)}')
 
     def structure(self):
         """The table of crates and what each imports is crates.txt's; the toolchain's own libraries are left out."""

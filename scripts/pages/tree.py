@@ -26,7 +26,13 @@ PART = re.compile(r'(?m)^  (?:pub )?(' + NAME + '(?: ' + NAME + ')*)' + SAYS)
 MODULE = re.compile(r'(?m)^use Rattle\.(\w+)\.specs\.(\w+)')
 IMPORTED = re.compile(r'(?m)^use Rattle\.(\w+)\.specs\.(?!declared)(\w+)\.\{([^}]*)\}')
 MADE = re.compile(r'crates/\w+/out(?:/|$)')
-FUNCTION = re.compile(r'(?m)^[ \t]*(pub )?(?:pub\(crate\) )?(?:extern "C" )?fn (\w+)')
+VISIBLE = r'(?:pub(?:\([^)]*\))? )?'
+FUNCTION = re.compile(r'(?m)^[ \t]*(pub )?(?:pub\([^)]*\) )?(?:const )?(?:extern "C" )?fn (\w+)')
+# The parameters of a type or of an impl, one pair of brackets in another at most; and the type of an impl, which may be one of a trait for it.
+PARAMETERS = r'(?:<(?:[^<>]|<[^<>]*>)*>)?'
+IMPL = re.compile(r'(?m)^impl' + PARAMETERS + r' (?:[^{;]*? for )?(?:\w+::)*(\w+)')
+DECLARED = re.compile(r'(?m)^' + VISIBLE + r'(?:(struct|enum) (\w+)(' + PARAMETERS + r')\s*([{(])|type (\w+' + PARAMETERS + r') = ((?:\[[^\]]*\]|[^;\[])*);)')
+CLOSED = {'{': '}', '(': ')'}
 
 
 @functools.lru_cache(maxsize=None)
@@ -37,11 +43,20 @@ def without_comments(text, mark):
 
 @functools.lru_cache(maxsize=None)
 def types_in(text):
-    """Each struct and enum of a source, in one line, by name."""
+    """Each struct, enum and name of a type of a source, in one line, by name."""
     found = {}
-    for m in re.finditer(r'(?m)^(?:pub )?(struct|enum) (\w+) \{(.*?)^\}', text, re.S):
-        inside = ' '.join(m.group(3).split()).replace('pub ', '').rstrip(',').replace(', }', ' }')
-        found[m.group(2)] = f'{m.group(1)} {m.group(2)} {{ {inside} }}'
+    for m in DECLARED.finditer(text):
+        if m.group(5):
+            found[re.match(r'\w+', m.group(5)).group()] = f'type {m.group(5)} = {" ".join(m.group(6).split())}'
+            continue
+        end, depth = m.end(), 1
+        while depth and end < len(text):
+            depth += {m.group(4): 1, CLOSED[m.group(4)]: -1}.get(text[end], 0)
+            end += 1
+        inside = re.sub(r'#\[[^\]]*\]\s*|\bpub(?:\([^)]*\))? ', '', text[m.end():end - 1])
+        inside = ' '.join(inside.split()).rstrip(',').replace(', }', ' }')
+        words = f'{m.group(1)} {m.group(2)}{m.group(3)}'
+        found[m.group(2)] = f'{words} {{ {inside} }}' if m.group(4) == '{' else f'{words}({inside})'
     return found
 
 
@@ -65,16 +80,16 @@ def used_in(text, words='(?:pub )?'):
 @functools.lru_cache(maxsize=None)
 def declared_in_source(text):
     """Functions, types, constants, variants and fields, and what is brought in by its name."""
-    names = set(re.findall(r'(?m)^\s*(?:pub(?:\(crate\))? )?(?:extern "C" )?(?:fn|const|struct|enum|type) (\w+)', text))
+    names = set(re.findall(r'(?m)^\s*' + VISIBLE + r'(?:const )?(?:extern "C" )?(?:fn|const|struct|enum|type|trait) (\w+)', text))
     names.update(name for _, name in used_in(text))
     for words in types_in(text).values():
-        names.update(re.findall(r'(?:^|[,{]) ?(\w+)(?=[,:({ ])', words[words.index('{') + 1:]))
+        names.update(re.findall(r'(?:^|[,{]) ?(\w+)(?=[,:({ ])', words.partition('{')[2]))
     return names
 
 
 def variants(words):
     """The variants of a type, or its fields, from its words in one line."""
-    return re.findall(r'(\w+)(?=[,({ ]|$)', re.sub(r'\([^)]*\)|\{[^}]*\}', '', words[words.index('{') + 1:]))
+    return re.findall(r'(\w+)(?=[,({ ]|$)', re.sub(r'\([^)]*\)|\{[^}]*\}', '', words.partition('{')[2]))
 
 
 def clauses(text, kind):
@@ -152,7 +167,7 @@ class Tree:
     def functions(self, path):
         """Each function of a source file as (name, its type before it; public; where it begins; where the next begins)."""
         text = self.bare(path)
-        homes = [(m.group(1), m.start(), text.find('\n}', m.start())) for m in re.finditer(r'(?m)^impl (\w+)', text)]
+        homes = [(m.group(1), m.start(), text.find('\n}', m.start())) for m in IMPL.finditer(text)]
         found = list(FUNCTION.finditer(text))
         for k, m in enumerate(found):
             home = next((name + '::' for name, start, end in homes if start < m.start() < end), '')
@@ -161,7 +176,7 @@ class Tree:
     def signature(self, path, start):
         """The name, parameters and result of the function that begins there, in one line, as a caller sees them."""
         text = self.bare(path)[start:]
-        end = re.search(r'\n\s*(?:requires|ensures|\{)|\s\{\s*\n', text).start()
+        end = re.search(r'\n\s*(?:where|requires|ensures|\{)|\s\{\s*\n', text).start()
         words = ' '.join(text[:end].split('fn ', 1)[1].split())
         return re.sub(r'\bmut (?=\w+:)', '', words.replace('( ', '(').replace(', )', ')'))
 
