@@ -13,14 +13,13 @@ use Rattle.base.proofs.Counting.{drop_more}
 use Rattle.load_text.specs.Bytes.{is_digit}
 use Rattle.load_word.specs.Decimals.{Sane, read_of, continued, decimal_from}
 use Rattle.load_word.specs.declared.Decimal.{Decimal}
-use Rattle.load_word.specs.declared.Reading.{Reading}
-use Rattle.load_word.specs.declared.Reading.TheVariants.{On}
+use Rattle.std.specs.Prelude.{Option, Some}
 
 pub digit_bounds : (b : ℕ) → is_digit b ≡ true → (48 ≤ b) × (b ≤ 57)
 digit_bounds b e = let p = (and_true _ _).0 e in (leb-true _ _ p.0, leb-true _ _ p.1)
 
 -- ten digits are below 10 ^ 10
-pub ten_digits : (k : Decimal) → Sane (On k) → k.value < 10000000000
+pub ten_digits : (k : Decimal) → Sane (Some k) → k.value < 10000000000
 ten_digits k h = lt_of_lt_of_le h.2 (pow-le-pow_right (lit< tt) {j = 10} (omega (arith, h.0, h.1)))
 
 -- one digit more
@@ -34,11 +33,11 @@ units_fit v p r h e =
     lt_of_le_of_lt (mul-le-mul_left v l) (omega arith)
 
 module _ (k : Decimal) (s : List ℕ) (i : ℕ) where
-  pub decimal_end : length s ≤ i → decimal_from k (drop i s) ≡ On k
+  pub decimal_end : length s ≤ i → decimal_from k (drop i s) ≡ Some k
   unfolding decimal_from
   decimal_end h = rw (drop_of_length-le s h)
 
-  pub decimal_next : {r : Reading} → i < length s → read_of k (get_or s i 0) ≡ r
+  pub decimal_next : {r : Option Decimal} → i < length s → read_of k (get_or s i 0) ≡ r
       → decimal_from k (drop i s) ≡ continued r (λ k'. decimal_from k' (drop (i + 1) s))
   unfolding decimal_from
   decimal_next h e = rw (drop_more s i 0 h, e)

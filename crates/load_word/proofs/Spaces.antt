@@ -17,11 +17,8 @@ use Rattle.load_word.specs.Properties.{setting_of}
 use Rattle.load_word.specs.declared.Setting.{Setting}
 use Rattle.load_word.specs.declared.Setting.TheVariants.{Restart, SmoothRecovery, RestartDelay, RestartLimitInterval}
 use Rattle.load_word.specs.declared.Setting.TheVariants.{RestartLimitCount, StartTimeout, StopTimeout, TermSignal}
-use Rattle.load_word.specs.declared.Change.TheVariants.{Refused}
-use Rattle.load_word.specs.declared.Worth.TheVariants.{Bad}
 use Rattle.load_word.specs.declared.Decimal.{Decimal}
-use Rattle.load_word.specs.declared.Reading.{Reading}
-use Rattle.load_word.specs.declared.Reading.TheVariants.{On, Off}
+use Rattle.std.specs.Prelude.{Option, Some, None}
 
 -- no byte of a list is a space
 abbrev unspaced : List ℕ → Bool
@@ -50,11 +47,11 @@ module _ (ys : List ℕ) where
       rw (differs xs t both.0) (found_none xs (k + 1) ts both.1 ∙ omega arith)
 
   -- no digit, no point
-  goes_on : (r : Reading) (xs : List ℕ) → ((k : Decimal) → decimal_from k (xs ++ (32 ∷ ys)) ≡ Off) → continued r (λ k. decimal_from k (xs ++ (32 ∷ ys))) ≡ Off
-  goes_on (On k) xs e = e k
-  goes_on Off xs e = refl
+  goes_on : (r : Option Decimal) (xs : List ℕ) → ((k : Decimal) → decimal_from k (xs ++ (32 ∷ ys)) ≡ None) → continued r (λ k. decimal_from k (xs ++ (32 ∷ ys))) ≡ None
+  goes_on (Some k) xs e = e k
+  goes_on None xs e = refl
 
-  reads_none : (xs : List ℕ) (k : Decimal) → decimal_from k (xs ++ (32 ∷ ys)) ≡ Off
+  reads_none : (xs : List ℕ) (k : Decimal) → decimal_from k (xs ++ (32 ∷ ys)) ≡ None
   unfolding decimal_from read_of
   reads_none [] k = refl
   reads_none (x ∷ xs) k = goes_on (read_of k x) xs (reads_none xs)
@@ -72,27 +69,27 @@ last_none false false = refl
 
 module _ (xs ys : List ℕ) where
   -- "yes, true, no, false" and the types
-  no_none : no_of (xs ++ (32 ∷ ys)) ≡ Bad
+  no_none : no_of (xs ++ (32 ∷ ys)) ≡ None
   unfolding no_of bytes
   no_none = rw (differs ys xs (bytes "no") refl, differs ys xs (bytes "false") refl)
 
-  flag_none : flag_of (xs ++ (32 ∷ ys)) ≡ Bad
+  flag_none : flag_of (xs ++ (32 ∷ ys)) ≡ None
   unfolding flag_of bytes
   flag_none = rw (differs ys xs (bytes "yes") refl, differs ys xs (bytes "true") refl, no_none)
 
-  pub kind_none : kind_of (xs ++ (32 ∷ ys)) ≡ Bad
+  pub kind_none : kind_of (xs ++ (32 ∷ ys)) ≡ None
   unfolding kind_of bytes
   kind_none = rw (differs ys xs (bytes "process") refl, differs ys xs (bytes "scripted") refl, differs ys xs (bytes "internal") refl)
 
-  signal_none : signal_of (xs ++ (32 ∷ ys)) ≡ Bad
+  signal_none : signal_of (xs ++ (32 ∷ ys)) ≡ None
   unfolding signal_of signal_names bytes
   signal_none = rw (found_none ys xs 0 signal_names refl)
 
-  time_none : time_of (xs ++ (32 ∷ ys)) ≡ Bad
+  time_none : time_of (xs ++ (32 ∷ ys)) ≡ None
   unfolding time_of
   time_none = rw (reads_none ys xs blank)
 
-  count_none : count_of (xs ++ (32 ∷ ys)) ≡ Bad
+  count_none : count_of (xs ++ (32 ∷ ys)) ≡ None
   unfolding count_of
   count_none = rw (reads_none ys xs blank)
 
@@ -103,7 +100,7 @@ module _ (xs ys : List ℕ) where
       ap (λ b. ltb 0 long && leb long longest_name && b) (names_none ys xs) ∙ last_none (ltb 0 long) (leb long longest_name)
 
   -- no setting takes it
-  pub setting_none : (s : Setting) (v : Settings) → setting_of s (xs ++ (32 ∷ ys)) v ≡ Refused
+  pub setting_none : (s : Setting) (v : Settings) → setting_of s (xs ++ (32 ∷ ys)) v ≡ None
   unfolding setting_of
   setting_none Restart v = rw flag_none
   setting_none SmoothRecovery v = rw no_none

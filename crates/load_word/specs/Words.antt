@@ -1,33 +1,32 @@
 -- Trusted: "Yes or no", types and signals, and names of services (number 3).
-use Rattle.std.specs.Prelude.{ℕ, zero, suc, ◌+◌, Bool, true, ◌&&◌, List, [], ◌∷◌, leb, ltb, length}
+use Rattle.std.specs.Prelude.{ℕ, zero, suc, ◌+◌, Bool, true, false, ◌&&◌, Option, Some, None, List, [], ◌∷◌, leb, ltb, length}
 use Prim.Native.String.{String}
 use Rattle.base.specs.Folds.{pick}
 use Rattle.load_text.specs.Strings.{bytes, same, index_from}
 use Rattle.load_text.specs.Bytes.{is_name_byte, longest_name}
-use Rattle.service.specs.Numbers.{kind_number, last_signal, signal_at}
+use Rattle.service.specs.Numbers.{last_signal, signal_at}
+use Rattle.service.specs.declared.Kind.{Kind}
 use Rattle.service.specs.declared.Kind.TheVariants.{Internal, Process, Scripted}
 use Rattle.service.specs.declared.Signal.{Signal}
 use Rattle.service.specs.declared.Signal.TheVariants.{Hup, Int, Kill, None as NoSignal, Quit, Term, Usr1, Usr2}
-use Rattle.load_word.specs.declared.Worth.{Worth}
-use Rattle.load_word.specs.declared.Worth.TheVariants.{Value, Bad}
 
--- "smooth-recovery accepts only no or false": 0 for no
-unfoldable pub no_of : List ℕ → Worth
+-- "smooth-recovery accepts only no or false"
+unfoldable pub no_of : List ℕ → Option Bool
 unfolding bytes
-no_of w = pick (same w (bytes "no")) (Value 0) (pick (same w (bytes "false")) (Value 0) Bad)
+no_of w = pick (same w (bytes "no")) (Some false) (pick (same w (bytes "false")) (Some false) None)
 
--- "Yes or no: yes, true, no, false": 1 for yes
-unfoldable pub flag_of : List ℕ → Worth
+-- "Yes or no: yes, true, no, false"
+unfoldable pub flag_of : List ℕ → Option Bool
 unfolding bytes
-flag_of w = pick (same w (bytes "yes")) (Value 1) (pick (same w (bytes "true")) (Value 1) (no_of w))
+flag_of w = pick (same w (bytes "yes")) (Some true) (pick (same w (bytes "true")) (Some true) (no_of w))
 
--- "type: process, scripted, internal": by its number
-unfoldable pub kind_of : List ℕ → Worth
+-- "type: process, scripted, internal"
+unfoldable pub kind_of : List ℕ → Option Kind
 unfolding bytes
 kind_of w =
-    pick (same w (bytes "process")) (Value (kind_number Process))
-    (pick (same w (bytes "scripted")) (Value (kind_number Scripted))
-    (pick (same w (bytes "internal")) (Value (kind_number Internal)) Bad))
+    pick (same w (bytes "process")) (Some Process)
+    (pick (same w (bytes "scripted")) (Some Scripted)
+    (pick (same w (bytes "internal")) (Some Internal) None))
 
 -- "term-signal: none, HUP, INT, TERM (default), QUIT, USR1, USR2, KILL"
 abbrev pub signal_name : Signal → String
@@ -49,8 +48,8 @@ unfoldable pub signal_names : List (List ℕ)
 unfolding bytes
 signal_names = names_from 0 (last_signal + 1)
 
-unfoldable pub signal_of : List ℕ → Worth
-signal_of w = pick (leb (index_from w 0 signal_names) last_signal) (Value (index_from w 0 signal_names)) Bad
+unfoldable pub signal_of : List ℕ → Option Signal
+signal_of w = pick (leb (index_from w 0 signal_names) last_signal) (Some (signal_at (index_from w 0 signal_names))) None
 
 -- all bytes are those of a name
 unfoldable pub name_bytes : List ℕ → Bool

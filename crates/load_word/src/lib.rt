@@ -1,7 +1,7 @@
 // The words of a description: names of properties, the values of those that are no commands, names of services.
 #![tactic(auto)]
 
-ghost use Rattle.std.specs.Prelude.{◌≡◌, true, ◌-◌, ◌^◌, ◌≤◌};
+ghost use Rattle.std.specs.Prelude.{◌≡◌, true, Some, ◌-◌, ◌^◌, ◌≤◌};
 ghost use Rattle.load_text.specs.Bytes.{is_digit};
 ghost use Rattle.load_text.specs.Strings.{index_from};
 ghost use Rattle.service.specs.Numbers.{kind_number, with_number};
@@ -10,7 +10,7 @@ ghost use Rattle.load_word.specs.Decimals.{Sane, blank, digit_of, read_of, decim
 ghost use Rattle.load_word.specs.Properties.{property_names, property_of, setting_of};
 
 use load_text::{LONGEST_NAME, is_digit, is_name_byte, same_bytes};
-use service::{Kind, LAST_SIGNAL, LONGEST_TIME, MAX_COUNT, Settings, kind_number, signal_at};
+use service::{Kind, LAST_SIGNAL, LONGEST_TIME, MAX_COUNT, Settings, Signal, signal_at};
 
 // How many signals there are.
 const SIGNALS: usize = LAST_SIGNAL as usize + 1;
@@ -53,20 +53,6 @@ pub enum Link {
     WaitsFor,
 }
 
-// What a word is worth to a rule: a number, or it is outside the rule.
-#[derive(Clone, Copy)]
-pub enum Worth {
-    Value(u64),
-    Bad,
-}
-
-// What a setting's word does: the settings with its value, or it is outside the rule.
-#[derive(Clone, Copy)]
-pub enum Change {
-    To(Settings),
-    Refused,
-}
-
 // A decimal number as it is read: its digits before and after the point, their value without the point, a point.
 #[derive(Clone, Copy)]
 pub struct Decimal {
@@ -74,13 +60,6 @@ pub struct Decimal {
     pub part: usize,
     pub value: u64,
     pub point: bool,
-}
-
-// A decimal number so far, or none.
-#[derive(Clone, Copy)]
-pub enum Reading {
-    On(Decimal),
-    Off,
 }
 
 // The place of a name among those of the properties; their count where it is none of them. The first one's type makes all of them slices.
@@ -143,49 +122,49 @@ pub fn find_property(name: &[u8]) -> Property
 }
 
 // Yes or no.
-fn read_flag(word: &[u8]) -> Worth
+fn read_flag(word: &[u8]) -> Option<bool>
     ensures { result ≡ flag_of word.now }
 {
     if same_bytes(word, b"yes") {
-        return Worth::Value(1);
+        return Some(true);
     }
     if same_bytes(word, b"true") {
-        return Worth::Value(1);
+        return Some(true);
     }
     read_no(word)
 }
 
 // No, and nothing else.
-fn read_no(word: &[u8]) -> Worth
+fn read_no(word: &[u8]) -> Option<bool>
     ensures { result ≡ no_of word.now }
 {
     if same_bytes(word, b"no") {
-        return Worth::Value(0);
+        return Some(false);
     }
     if same_bytes(word, b"false") {
-        return Worth::Value(0);
+        return Some(false);
     }
-    Worth::Bad
+    None
 }
 
-// A type by its number.
-pub fn read_kind(word: &[u8]) -> Worth
+// A type.
+pub fn read_kind(word: &[u8]) -> Option<Kind>
     ensures { result ≡ kind_of word.now }
 {
     if same_bytes(word, b"process") {
-        return Worth::Value(kind_number(Kind::Process));
+        return Some(Kind::Process);
     }
     if same_bytes(word, b"scripted") {
-        return Worth::Value(kind_number(Kind::Scripted));
+        return Some(Kind::Scripted);
     }
     if same_bytes(word, b"internal") {
-        return Worth::Value(kind_number(Kind::Internal));
+        return Some(Kind::Internal);
     }
-    Worth::Bad
+    None
 }
 
-// A signal by its number.
-fn read_signal(word: &[u8]) -> Worth
+// A signal.
+fn read_signal(word: &[u8]) -> Option<Signal>
     ensures { result ≡ signal_of word.now }
 {
     let names: [&[u8]; SIGNALS] = [
@@ -196,16 +175,16 @@ fn read_signal(word: &[u8]) -> Worth
         let n = names[k];
         let found = same_bytes(word, n);
         if found {
-            return Worth::Value(k as u64);
+            return Some(signal_at(k as u64));
         }
         k += 1;
     }
-    Worth::Bad
+    None
 }
 
 // A digit more.
-fn digit(k: Decimal, b: u8) -> Reading
-    requires { (is_digit b ≡ true) × Sane (Reading.On k) }
+fn digit(k: Decimal, b: u8) -> Option<Decimal>
+    requires { (is_digit b ≡ true) × Sane (Some k) }
     ensures value { result ≡ digit_of k b }
     ensures sane { Sane result }
 {
@@ -213,30 +192,28 @@ fn digit(k: Decimal, b: u8) -> Reading
     if k.point {
         let more = k.part < 4;
         if more {
-            return Reading::On(Decimal {
-                whole: k.whole,
+            return Some(Decimal {
                 part: k.part + 1,
                 value,
-                point: true,
+                ..k
             });
         }
-        return Reading::Off;
+        return None;
     }
     let more = k.whole < 6;
     if more {
-        return Reading::On(Decimal {
+        return Some(Decimal {
             whole: k.whole + 1,
-            part: k.part,
             value,
-            point: false,
+            ..k
         });
     }
-    Reading::Off
+    None
 }
 
 // A byte more.
-fn advance(k: Decimal, b: u8) -> Reading
-    requires { Sane (Reading.On k) }
+fn advance(k: Decimal, b: u8) -> Option<Decimal>
+    requires { Sane (Some k) }
     ensures value { result ≡ read_of k b }
     ensures sane { Sane result }
 {
@@ -245,18 +222,13 @@ fn advance(k: Decimal, b: u8) -> Reading
     }
     let dot = (b == b'.') & !k.point & (0 < k.whole);
     if dot {
-        return Reading::On(Decimal {
-            whole: k.whole,
-            part: k.part,
-            value: k.value,
-            point: true,
-        });
+        return Some(Decimal { point: true, ..k });
     }
-    Reading::Off
+    None
 }
 
 // The decimal number that a word is.
-fn read_decimal(word: &[u8]) -> Reading
+fn read_decimal(word: &[u8]) -> Option<Decimal>
     ensures value { result ≡ decimal_from blank word.now }
     ensures sane { Sane result }
 {
@@ -269,14 +241,10 @@ fn read_decimal(word: &[u8]) -> Reading
     let mut i: usize = 0;
     while i < word.len() {
         let b = word[i];
-        let next = i + 1;
-        let Reading::On(more) = advance(k, b) else {
-            return Reading::Off;
-        };
-        k = more;
-        i = next;
+        k = advance(k, b)?;
+        i += 1;
     }
-    Reading::On(k)
+    Some(k)
 }
 
 // 10 to the power of what is missing of four digits.
@@ -294,33 +262,29 @@ fn scale(part: usize) -> u64
 }
 
 // A time in units of 0.1 ms.
-fn read_time(word: &[u8]) -> Worth
+fn read_time(word: &[u8]) -> Option<u64>
     ensures { result ≡ time_of word.now }
 {
-    let Reading::On(k) = read_decimal(word) else {
-        return Worth::Bad;
-    };
+    let k = read_decimal(word)?;
     let part = k.part;
     let units = k.value * scale(part);
     let good = (0 < k.whole) & (!k.point | (0 < part)) & (units <= LONGEST_TIME);
     if good {
-        return Worth::Value(units);
+        return Some(units);
     }
-    Worth::Bad
+    None
 }
 
 // A limit count.
-fn read_limit(word: &[u8]) -> Worth
+fn read_limit(word: &[u8]) -> Option<u64>
     ensures { result ≡ count_of word.now }
 {
-    let Reading::On(k) = read_decimal(word) else {
-        return Worth::Bad;
-    };
+    let k = read_decimal(word)?;
     let good = (0 < k.whole) & (k.whole <= 5) & !k.point & (k.value <= MAX_COUNT);
     if good {
-        return Worth::Value(k.value);
+        return Some(k.value);
     }
-    Worth::Bad
+    None
 }
 
 // All bytes are those of a name.
@@ -354,67 +318,44 @@ pub fn with_kind(kind: Kind, v: Settings) -> Settings
     Settings { kind, ..v }
 }
 
-// The settings with a signal, by its number.
-fn with_signal(n: u64, v: Settings) -> Settings
-    ensures { result ≡ with_number 7 n v }
-{
-    let signal = signal_at(n);
-    Settings { signal, ..v }
-}
-
-// The settings with a word as the value of one of them.
-pub fn read_setting(s: Setting, word: &[u8], v: Settings) -> Change
+// The settings with a word as the value of one of them; none where the word is outside the rule.
+#[tactic(auto, unfolding(crate::specs::Properties::setting_of))]
+pub fn read_setting(s: Setting, word: &[u8], v: Settings) -> Option<Settings>
     ensures { result ≡ setting_of s word.now v }
 {
-    let mut next = v;
-    match s {
+    let next = match s {
         Setting::Restart => {
-            let Worth::Value(n) = read_flag(word) else {
-                return Change::Refused;
-            };
-            next.restart = n == 1;
+            let restart = read_flag(word)?;
+            Settings { restart, ..v }
         }
         Setting::SmoothRecovery => {
-            let Worth::Value(_) = read_no(word) else {
-                return Change::Refused;
-            };
+            read_no(word)?;
+            v
         }
         Setting::RestartDelay => {
-            let Worth::Value(n) = read_time(word) else {
-                return Change::Refused;
-            };
-            next.delay = n;
+            let delay = read_time(word)?;
+            Settings { delay, ..v }
         }
         Setting::RestartLimitInterval => {
-            let Worth::Value(n) = read_time(word) else {
-                return Change::Refused;
-            };
-            next.interval = n;
+            let interval = read_time(word)?;
+            Settings { interval, ..v }
         }
         Setting::RestartLimitCount => {
-            let Worth::Value(n) = read_limit(word) else {
-                return Change::Refused;
-            };
-            next.limit = n;
+            let limit = read_limit(word)?;
+            Settings { limit, ..v }
         }
         Setting::StartTimeout => {
-            let Worth::Value(n) = read_time(word) else {
-                return Change::Refused;
-            };
-            next.start_timeout = n;
+            let start_timeout = read_time(word)?;
+            Settings { start_timeout, ..v }
         }
         Setting::StopTimeout => {
-            let Worth::Value(n) = read_time(word) else {
-                return Change::Refused;
-            };
-            next.stop_timeout = n;
+            let stop_timeout = read_time(word)?;
+            Settings { stop_timeout, ..v }
         }
         Setting::TermSignal => {
-            let Worth::Value(n) = read_signal(word) else {
-                return Change::Refused;
-            };
-            next = with_signal(n, v);
+            let signal = read_signal(word)?;
+            Settings { signal, ..v }
         }
-    }
-    Change::To(next)
+    };
+    Some(next)
 }

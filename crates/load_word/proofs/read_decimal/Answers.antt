@@ -11,13 +11,13 @@ loop-i-init c = (search rules, (search rules, search rules, search rules), refl)
 pub advance-requires : goal.advance-requires
 advance-requires c = c.loop-i.invariant.1
 
-pub returns-in_default : goal.returns-in_default
-returns-in_default c =
-    record { value = sym (c.loop-i.invariant.2 ∙ decimal_next _ _ _ c.loop-i-test.true (sym c.advance.ensures.value ∙ c.in_default.is)); sane = tt }
+pub returns-in_err-k : goal.returns-in_err-k
+returns-in_err-k c =
+    record { value = c.from_residual.ensures ∙ sym (c.loop-i.invariant.2 ∙ decimal_next _ _ _ c.loop-i-test.true (sym c.advance.ensures.value ∙ c.in_err-k.was)); sane = rw c.from_residual.ensures tt }
 
 pub loop-i-preserved : goal.loop-i-preserved
 loop-i-preserved c =
-    (search rules, subst Sane c.in-On.is c.advance.ensures.sane, c.loop-i.invariant.2 ∙ decimal_next _ _ _ c.loop-i-test.true (sym c.advance.ensures.value ∙ c.in-On.is))
+    (search rules, subst Sane c.in_ok-k.was c.advance.ensures.sane, c.loop-i.invariant.2 ∙ decimal_next _ _ _ c.loop-i-test.true (sym c.advance.ensures.value ∙ c.in_ok-k.was))
 
 pub returns : goal.returns
 returns c = record { value = sym (c.loop-i.invariant.2 ∙ decimal_end _ _ _ c.loop-i-test.false); sane = c.loop-i.invariant.1 }

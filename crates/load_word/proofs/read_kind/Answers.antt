@@ -5,7 +5,7 @@ use Rattle.load_word.proofs.read_kind.Goals as goal
 
 pub returns-then-same_bytes : goal.returns-then-same_bytes
 unfolding kind_of
-returns-then-same_bytes c = rw (sym c.same_bytes.ensures ∙ c.if-same_bytes.true, c.kind_number.ensures)
+returns-then-same_bytes c = rw (sym c.same_bytes.ensures ∙ c.if-same_bytes.true)
 
 pub returns-then-same_bytes-2 : goal.returns-then-same_bytes-2
 unfolding kind_of
@@ -13,7 +13,6 @@ returns-then-same_bytes-2 c =
     rw (
       sym c.same_bytes.ensures ∙ c.if-same_bytes.false,
       sym c.same_bytes-2.ensures ∙ c.if-same_bytes-2.true,
-      c.kind_number-then-same_bytes-2.ensures,
     )
 
 pub returns-then-same_bytes-3 : goal.returns-then-same_bytes-3
@@ -23,7 +22,6 @@ returns-then-same_bytes-3 c =
       sym c.same_bytes.ensures ∙ c.if-same_bytes.false,
       sym c.same_bytes-2.ensures ∙ c.if-same_bytes-2.false,
       sym c.same_bytes-3.ensures ∙ c.if-same_bytes-3.true,
-      c.kind_number-then-same_bytes-3.ensures,
     )
 
 pub returns : goal.returns

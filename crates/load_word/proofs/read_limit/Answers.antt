@@ -3,14 +3,14 @@ use mathlib.Core.Path.{sym, ◌∙◌}
 use Rattle.load_word.specs.Decimals.{count_end, count_of}
 use Rattle.load_word.proofs.read_limit.Goals as goal
 
-pub returns-in_default : goal.returns-in_default
+pub returns-in_err-k : goal.returns-in_err-k
 unfolding count_of
-returns-in_default c = rw (sym c.read_decimal.ensures.value ∙ c.in_default.is)
+returns-in_err-k c = c.from_residual.ensures ∙ rw (sym c.read_decimal.ensures.value ∙ c.in_err-k.was)
 
 pub returns-then-good : goal.returns-then-good
 unfolding count_of count_end
-returns-then-good c = rw (sym c.read_decimal.ensures.value ∙ c.in-On.is, c.if-good.true)
+returns-then-good c = rw (sym c.read_decimal.ensures.value ∙ c.in_ok-k.was, c.if-good.true)
 
 pub returns : goal.returns
 unfolding count_of count_end
-returns c = rw (sym c.read_decimal.ensures.value ∙ c.in-On.is, c.if-good.false)
+returns c = rw (sym c.read_decimal.ensures.value ∙ c.in_ok-k.was, c.if-good.false)

@@ -1,5 +1,6 @@
 -- `read_signal` meets its contract: the place among the names that are left.
 use mathlib.Core.Path.{refl, sym, ap, ◌∙◌}
+use Rattle.std.specs.Prelude.{Some}
 use Rattle.load_text.specs.Strings.{same}
 use Rattle.load_word.specs.Words.{signal_names}
 use Rattle.load_word.proofs.Words.{signal_found, signal_none}
@@ -15,7 +16,8 @@ pub returns-then-found : goal.returns-then-found
 unfolding signal_names
 returns-then-found c =
     let inside = c.loop-k-test.true in
-    sym
+    ap Some c.signal_at.ensures
+    ∙ sym
     (signal_found _
     (c.loop-k.invariant.1
     ∙ index_next _ _ _ _ inside (ap (same _) (rw (at_now, inside)) ∙ sym c.same_bytes-found.ensures ∙ c.if-found.true)) inside)
