@@ -27,8 +27,10 @@ POINTS = {
     8: "answers that repeat, or that the check finds",
 }
 
-# How a comment says why a place stays: its first words, up to a colon.
-KEPT = re.compile(r"//+ (?:[\w`']+ ){0,5}[\w`']+: ")
+# How a comment says why a place stays: its first words name the form, up to a colon.
+KEPT = re.compile(r"//+ (?:An?|Own|Two|Three|No|Not|By hand|Kept|Stays|One by one)\b[^:.]*?\b(?:while|loop|index|match|switch|number|numbers|flag|answer|struct|enum|types?|"
+                  r"count|cast|cop(?:y|ies)|constants?|twins?|array|arrays|buffer|slices?|places?|search|order|minimum|fold|test|tests|name|names|functions?|parameters?|fact|"
+                  r"hand|cases?|chain|form|forms)s?: ")
 
 # The names of a case or a field that say whether there is a value.
 NONE = {"None", "Nothing", "Unknown", "Off", "Bad", "Refused", "Malformed", "Unreadable", "Invalid", "Missing", "Absent", "Failed", "Error"}
@@ -243,8 +245,9 @@ class Places:
             # The field that a struct is listed for stands in a line soon after.
             if not any(line < file.line(m.start()) <= line + 3 for line in listed):
                 self.add(1, file, m.start(), "a number for a kind or a refusal")
-        for m in re.finditer(r"\bnumber: [1-9]\d*|\bbare\([1-9]\d*|\brefused_reply\(\d+|\bnumber\w* (?:==|<|<=|!=) [1-9]|[1-9]\d* <= number", file.bare):
-            self.add(1, file, m.start(), "a number for a refusal")
+        written = list(re.finditer(r"\bnumber: [1-9]\d*|\bbare\([1-9]\d*|\brefused_reply\(\d+|\bnumber\w* (?:==|<|<=|!=) [1-9]\d*|[1-9]\d* <= number", file.bare))
+        if written:
+            self.add(1, file, written[0].start(), "numbers of refusals", ", ".join(sorted({re.search(r"\d+", m.group()).group() for m in written}, key=int)))
 
     # ---- 2
 
