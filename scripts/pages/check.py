@@ -61,7 +61,7 @@ PROMISED = [
     ('LineAndColumnTell', 'crates/load_text/specs/Offsets.antt',
      'LineAndColumnTell = (text : List ℕ) (at : ℕ) → Stands text at (line_number text at) (column_number text at)'),
     ('line_and_column_tell', 'crates/load_text/proofs/Offsets.antt', 'pub line_and_column_tell : LineAndColumnTell'),
-    ('refused_in', 'crates/load_lent/src/lib.rt', '{ result ≡ refused_in text.now j f }'),
+    ('Refused::within', 'crates/load_lent/src/lib.rt', '{ result ≡ refused_in text.now service f }'),
     ('column_number', 'crates/load_text/src/lib.rt', '{ result ≡ column_number s.now at }'),
     ('pair_loads', 'crates/loader/specs/Examples.antt', 'pub pair_loads : load_of pair 30 ≡ pair_loaded'),
     ('readings_hold', 'crates/rules/specs/Readings.antt', 'pub readings_hold : AllGiven readings'),

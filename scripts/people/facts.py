@@ -69,7 +69,7 @@ class Facts:
         self.words = {'no': self.quoted('no_of'), 'type': self.quoted('kind_of'), 'signal': self.signals()}
         self.words['flag'] = self.quoted('flag_of') + self.words['no']
         self.settings = {name: (place, rule) for name, place, rule in
-                         self.found(PROPERTIES, r'(?m)^setting_of (\w+) w v = \w+ (?:(\d+) )?v \((\w+) w\)')}
+                         self.found(PROPERTIES, r'(?m)^setting_of (\w+) w v = \w+ (?:(\d+) )?v\b.*?\b(\w+_of) w\)')}
         self.properties = self.found(PROPERTIES, r'named "([a-z.\-]+)" \(?(\w+)(?: (\w+)\))?')
         self.rules = {name: self.rule(kind, which) for name, kind, which in self.properties}
         self.limits = {name: self.number(*place) for name, place in LIMITS.items()}

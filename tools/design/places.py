@@ -197,7 +197,7 @@ class Places:
                     self.add(1, file, at, f"a struct with `{flags[0]}` beside values")
             self.kinds_as_numbers(file)
         for f in self.all:
-            above = f.file.lines[f.file.line(f.at) - 2] if f.file.line(f.at) > 1 else ""
+            above = next((l for l in f.file.lines[: f.file.line(f.at) - 1][::-1] if not l.startswith("#[")), "")
             if re.match(r"\s*//(?!.* set ).*\b(?:where (?:there|it) (?:is|fits) none|for none|none of (?:them|theirs))", above) and re.fullmatch(NUMBER, f.result):
                 self.add(1, f.file, f.at, "a number that stands for none")
             if self.numbering(f):
