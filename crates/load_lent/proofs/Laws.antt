@@ -81,12 +81,12 @@ module _ {name : ℕ → List ℕ} {n j : ℕ} (k : NamesLeft name n j) where
     unfolding names_from
     names_bad f b = ap Err b ∙ sym (k.rest ∙ rw (one_left n j l, ← is, ← e, f))
 
-    module _ {i : ℕ} (f : g ≡ true) (h : i ≡ find name j w) where
-      pub names_twice : ltb i j ≡ true → {r : Refused} → r ≡ bare 4 j → Err r ≡ names_from name 0 n
+    module _ {q : Bool} (f : g ≡ true) (h : q ≡ ltb (find name j w) j) where
+      pub names_twice : q ≡ true → {r : Refused} → r ≡ bare 4 j → Err r ≡ names_from name 0 n
       unfolding names_from
       names_twice t b = ap Err b ∙ sym (k.rest ∙ rw (one_left n j l, ← is, ← e, f, ← h, t))
 
-      pub names_good : ltb i j ≡ false → NamesLeft name n (j + 1)
+      pub names_good : q ≡ false → NamesLeft name n (j + 1)
       unfolding names_from
       names_good t = record { within = omega arith; rest = k.rest ∙ rw (one_left n j l, ← is, ← e, f, ← h, t) }
 

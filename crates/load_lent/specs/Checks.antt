@@ -1,5 +1,5 @@
 -- Trusted: the names (3, 4) and the sizes (5) of a set, whose names and texts are given by service.
-use Rattle.std.specs.Prelude.{ℕ, zero, suc, ◌+◌, ◌||◌, List, Ok, Err, ltb, length}
+use Rattle.std.specs.Prelude.{ℕ, zero, suc, ◌+◌, ◌||◌, List, Option, Some, None, Ok, Err, ltb, length}
 use Rattle.base.specs.Folds.{pick, first}
 use Rattle.load_text.specs.Strings.{same}
 use Rattle.load_word.specs.Words.{is_name}
@@ -8,6 +8,10 @@ use Rattle.load_lent.specs.Refusals.{Answer, bare}
 -- the service of a name among the first n, or n where it is none of theirs
 unfoldable pub find : (ℕ → List ℕ) → ℕ → List ℕ → ℕ
 find name n w = first (λ i. same w (name i)) n
+
+-- what a search below n came to, where n says that there was none
+abbrev pub found : ℕ → ℕ → Option ℕ
+found n i = pick (ltb i n) (Some i) None
 
 -- "all names, 3 then 4 each", from service j on with m left; 4: "a name equals an earlier one"
 unfoldable pub names_from : (ℕ → List ℕ) → ℕ → ℕ → Answer

@@ -3,7 +3,7 @@
 
 ghost use Rattle.std.specs.Prelude.{◌≡◌, ◌≤◌, ◌/◌, length, get_or};
 ghost use Rattle.load_lent.specs.Parts.{service_count, within, positioned, name_start, name_at, text_at};
-ghost use Rattle.load_lent.specs.Checks.{find, names_from, sizes_from};
+ghost use Rattle.load_lent.specs.Checks.{find, found, names_from, sizes_from};
 ghost use Rattle.load_lent.specs.Refusals.{bare, refused_in};
 
 use load_text::{Fault, column_number, line_number, part, same_bytes};
@@ -119,21 +119,16 @@ impl<'a> Lent<'a, '_> {
         part(self.bytes, self.position(2 * j), self.position(2 * j + 1))
     }
 
-    // The service of a name among the first n, or n where it is none of theirs.
-    fn find_among(self, n: usize, name: &[u8]) -> usize
-        ensures { result ≡ find (name_at self.entry.bytes.now self.entry.ends.now) n name.now }
+    // The service of a name among the first n.
+    fn find_among(self, n: usize, name: &[u8]) -> Option<usize>
+        ensures { result ≡ found n (find (name_at self.entry.bytes.now self.entry.ends.now) n name.now) }
     {
-        for i in 0..n {
-            if same_bytes(name, self.name(i)) {
-                return i;
-            }
-        }
-        n
+        (0..n).find(|&i| same_bytes(name, self.name(i)))
     }
 
-    // The service of a name among the first n, or their number where it is none of theirs; past the services lent there is nothing to look at.
-    pub fn find(self, n: usize, name: &[u8]) -> usize
-        ensures { result ≡ find (name_at self.entry.bytes.now self.entry.ends.now) (within n self.entry.ends.now) name.now }
+    // The service of a name among the first n; past the services lent there is nothing to look at.
+    pub fn find(self, n: usize, name: &[u8]) -> Option<usize>
+        ensures { let few = within n self.entry.ends.now in result ≡ found few (find (name_at self.entry.bytes.now self.entry.ends.now) few name.now) }
     {
         self.find_among(n.min(self.count()), name)
     }
@@ -147,7 +142,7 @@ impl<'a> Lent<'a, '_> {
             if !is_name(name) {
                 return Err(Refused::bare(3, j));
             }
-            if self.find_among(j, name) < j {
+            if self.find_among(j, name).is_some() {
                 return Err(Refused::bare(4, j));
             }
         }
