@@ -19,6 +19,7 @@ use Rattle.load_text.proofs.Runs.{run_within}
 use Rattle.std.specs.Prelude.{Option, Some, None, Result, Ok, Err}
 use Rattle.load_text.specs.declared.Fault.{Fault}
 use Rattle.load_text.specs.declared.Places.{Places}
+use Rattle.load_text.specs.declared.Wrong.TheVariants.{Malformed}
 
 module _ (s : List ℕ) (k : ℕ) where
   pub line_none : length s ≤ k → line_of (drop k s) ≡ []
@@ -109,7 +110,7 @@ module _ (l : List ℕ) {a : ℕ} (p : a ≡ white_end l 0) where
     opening_nothing x = rw (← p, ← u, x)
 
     module _ {e : ℕ} (q : e ≡ name_end l a) (x : leb (length l) a || eqb f 35 ≡ false) where
-      pub opening_nameless : eqb a e ≡ true → Err (fault 7 a) ≡ opening l
+      pub opening_nameless : eqb a e ≡ true → Err (fault Malformed a) ≡ opening l
       unfolding opening
       opening_nameless y = rw (← p, ← u, x, ← q, y)
 
@@ -118,7 +119,7 @@ module _ (l : List ℕ) {a : ℕ} (p : a ≡ white_end l 0) where
         unfolding opening
         opening_named z = rw (← p, ← u, x, ← q, y, ← r, ← v, ← w, z)
 
-        pub opening_unsigned : g ≡ false → Err (fault 7 s) ≡ opening l
+        pub opening_unsigned : g ≡ false → Err (fault Malformed s) ≡ opening l
         unfolding opening
         opening_unsigned z = rw (← p, ← u, x, ← q, y, ← r, ← v, ← w, z)
 
@@ -157,9 +158,9 @@ opening_inside l =
     s = run_within is_white l (name_end l (white_end l 0)) e refl
 
     by : (x y z : Bool) → is_sign (get_or l (white_end l (name_end l (white_end l 0))) 0) ≡ z
-        → Inside (length l) (pick x (Ok None) (pick y (Err (fault 7 (white_end l 0)))
+        → Inside (length l) (pick x (Ok None) (pick y (Err (fault Malformed (white_end l 0)))
         (pick z (Ok (Some (record { from = white_end l 0; end = name_end l (white_end l 0); value = white_end l (name_end l (white_end l 0)) + 1 })))
-        (Err (fault 7 (white_end l (name_end l (white_end l 0))))))))
+        (Err (fault Malformed (white_end l (name_end l (white_end l 0))))))))
     by true y z h = tt
     by false true z h = a
     by false false true h = (a, omega (arith, class_inside is_sign refl l (white_end l (name_end l (white_end l 0))) h))

@@ -8,6 +8,7 @@ use lib.ListN.{length, get_or, drop, drop_of_length-le, length-drop}
 use Rattle.base.proofs.Counting.{drop_more}
 use Rattle.base.specs.Folds.{pick}
 use Rattle.load_text.specs.Bytes.{is_bad, is_newline, run}
+use Rattle.load_text.specs.declared.Wrong.TheVariants.{BadByte}
 use Rattle.load_text.specs.Lines.{fault, bad_from, line_from, column_from}
 use Rattle.std.specs.Prelude.{Ok, Err}
 
@@ -39,7 +40,7 @@ module _ (i : ℕ) (s : List ℕ) (k : ℕ) where
   bad_end h = rw (drop_of_length-le s h)
 
   pub bad_next : {t : Bool} → k < length s → is_bad (get_or s k 0) ≡ t
-      → bad_from i (drop k s) ≡ pick t (Err (fault 6 i)) (bad_from (i + 1) (drop (k + 1) s))
+      → bad_from i (drop k s) ≡ pick t (Err (fault BadByte i)) (bad_from (i + 1) (drop (k + 1) s))
   unfolding bad_from
   bad_next h e = rw (drop_more s k 0 h, e)
 

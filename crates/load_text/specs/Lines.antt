@@ -4,6 +4,8 @@ use Rattle.base.specs.Folds.{pick}
 use Rattle.load_text.specs.Bytes.{is_white, is_newline, is_bad, is_property_byte, is_sign, run}
 use Rattle.load_text.specs.declared.Fault.{Fault}
 use Rattle.load_text.specs.declared.Places.{Places}
+use Rattle.load_text.specs.declared.Wrong.{Wrong}
+use Rattle.load_text.specs.declared.Wrong.TheVariants.{BadByte, Malformed}
 
 -- the bytes before the first newline
 unfoldable pub line_of : List ℕ → List ℕ
@@ -19,13 +21,13 @@ unfoldable pub lines_of : List ℕ → List (List ℕ)
 lines_of [] = []
 lines_of (b ∷ bs) = pick (is_newline b) ([] ∷ lines_of bs) (grow b (lines_of bs))
 
-abbrev pub fault : ℕ → ℕ → Fault
-fault n i = record { number = n; at = i }
+abbrev pub fault : Wrong → ℕ → Fault
+fault w i = record { wrong = w; at = i }
 
 -- 6: "bad byte", over the whole text; i is the offset of what is left
 unfoldable pub bad_from : ℕ → List ℕ → Result (Unit {0}) Fault
 bad_from i [] = Ok tt
-bad_from i (b ∷ bs) = pick (is_bad b) (Err (fault 6 i)) (bad_from (i + 1) bs)
+bad_from i (b ∷ bs) = pick (is_bad b) (Err (fault BadByte i)) (bad_from (i + 1) bs)
 
 -- "lines from 1": the line after these bytes, of which the first stands in line k
 unfoldable pub line_from : ℕ → List ℕ → ℕ
@@ -59,8 +61,8 @@ white_end l a = a + run is_white (drop a l)
 -- "Otherwise: optional white space, a property name .., optional white space, `=` or `:`, the value"; 7 "for name and sign"
 abbrev pub named : List ℕ → ℕ → ℕ → ℕ → Result (Option Places) Fault
 named l a e s =
-    pick (eqb a e) (Err (fault 7 a))
-    (pick (is_sign (get_or l s 0)) (Ok (Some (record { from = a; end = e; value = s + 1 }))) (Err (fault 7 s)))
+    pick (eqb a e) (Err (fault Malformed a))
+    (pick (is_sign (get_or l s 0)) (Ok (Some (record { from = a; end = e; value = s + 1 }))) (Err (fault Malformed s)))
 
 -- a line that says nothing names nothing
 unfoldable pub opening : List ℕ → Result (Option Places) Fault

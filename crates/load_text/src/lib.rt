@@ -2,6 +2,7 @@
 #![tactic(auto)]
 
 ghost use Rattle.std.specs.Prelude.{◌≡◌, ◌+◌, length, get_or, take, drop};
+ghost use Rattle.load_text.specs.Numbers.{wrong_number};
 ghost use Rattle.load_text.specs.Strings.{same, part_of};
 ghost use Rattle.load_text.specs.Bytes.{is_white, is_bad, is_property_byte, is_name_byte, is_digit, is_sign};
 ghost use Rattle.load_text.specs.Lines.{line_of, bad_from, line_from, line_number, column_from, column_number, name_end, white_end, opening};
@@ -9,10 +10,33 @@ ghost use Rattle.load_text.specs.Lines.{line_of, bad_from, line_from, line_numbe
 // The longest name of a service, and so the longest word.
 pub const LONGEST_NAME: usize = 32;
 
-// A fault met inside a text: paper 01's number, and the offset of the byte that decided it.
+// What is wrong with a text, by paper 01's number.
+#[derive(Clone, Copy, PartialEq, Eq)]
+pub enum Wrong {
+    BadByte = 6,
+    Malformed = 7,
+    OpenQuote = 8,
+    LastBackslash = 9,
+    UnknownProperty = 10,
+    OutsideRule = 11,
+    TooManyDependencies = 12,
+    NoType = 13,
+    NoCommand = 14,
+    NoSuchService = 15,
+}
+
+impl From<Wrong> for u8 {
+    ghost from_gives = { λ w n. n ≡ wrong_number w };
+
+    fn from(w: Wrong) -> u8 {
+        w as u8
+    }
+}
+
+// A fault met inside a text, and the offset of the byte that decided it.
 #[derive(Clone, Copy)]
 pub struct Fault {
-    pub number: u8,
+    pub wrong: Wrong,
     pub at: usize,
 }
 
@@ -181,7 +205,10 @@ pub fn first_bad(s: &[u8]) -> Result<(), Fault>
             let bad = is_bad(b);
             let ends = b == b'\n';
             if bad {
-                break 'lines Err(Fault { number: 6, at: i });
+                break 'lines Err(Fault {
+                    wrong: Wrong::BadByte,
+                    at: i,
+                });
             }
             i += 1;
             if ends {
@@ -261,7 +288,7 @@ pub fn opening_of(line: &[u8]) -> Result<Option<Places>, Fault>
     }
     if nameless {
         return Err(Fault {
-            number: 7,
+            wrong: Wrong::Malformed,
             at: from,
         });
     }
@@ -269,7 +296,7 @@ pub fn opening_of(line: &[u8]) -> Result<Option<Places>, Fault>
         return Ok(Some(Places { from, end, value }));
     }
     Err(Fault {
-        number: 7,
+        wrong: Wrong::Malformed,
         at: sign,
     })
 }

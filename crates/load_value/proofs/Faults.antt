@@ -12,7 +12,9 @@ use Rattle.base.proofs.Tests.{no_ft, not_both}
 use Rattle.base.specs.Folds.{pick}
 use Rattle.load_text.specs.Bytes.{is_white}
 use Rattle.std.specs.Prelude.{Result, Ok, Err}
+use Rattle.load_text.specs.Numbers.{wrong_number}
 use Rattle.load_text.specs.declared.Fault.{Fault}
+use Rattle.load_text.specs.declared.Wrong.TheVariants.{LastBackslash, OpenQuote}
 use Rattle.load_value.specs.declared.Mode.{Mode}
 use Rattle.load_value.specs.declared.Step.{Step}
 use Rattle.load_value.specs.declared.Step.TheVariants.{Skip, Quote, Keep, Close, Malformed}
@@ -29,7 +31,7 @@ pub data Deciding (v : List ℕ) (at : ℕ) : ℕ → Type 0 where
 
 abbrev Faulty : List ℕ → Result (Unit {0}) Fault → Type 0
 Faulty v (Ok tt) = Unit {0}
-Faulty v (Err f) = Deciding v f.at f.number
+Faulty v (Err f) = Deciding v f.at (wrong_number f.wrong)
 
 -- i bytes of the value are read, and l is left: in quotes q is the place of the quote, and it is closed where what is left closes it; after a
 -- backslash the last byte is one
@@ -124,7 +126,7 @@ faults_in v m q i [] h is few = by m.escaped refl m.quoted refl
     shut true = refl
     shut false = refl
 
-    by : (a : Bool) → m.escaped ≡ a → (b : Bool) → m.quoted ≡ b → Faulty v (pick a (Err (record { number = 9; at = i - 1 })) (pick b (Err (record { number = 8; at = q })) (Ok tt)))
+    by : (a : Bool) → m.escaped ≡ a → (b : Bool) → m.quoted ≡ b → Faulty v (pick a (Err (record { wrong = LastBackslash; at = i - 1 })) (pick b (Err (record { wrong = OpenQuote; at = q })) (Ok tt)))
     by true e b f = backslash (h.escaped e).1 (omega (arith, long, (h.escaped e).0))
     by false e true f = quote (h.quoted f) (h.open_on f ∙ shut m.escaped)
     by false e false f = tt
@@ -148,7 +150,7 @@ faults_in v m q i (b ∷ bs) h is few =
 
 abbrev pub ScanFaulty : List ℕ → Result Sizes Fault → Type 0
 ScanFaulty v (Ok z) = Unit {0}
-ScanFaulty v (Err f) = Deciding v f.at f.number
+ScanFaulty v (Err f) = Deciding v f.at (wrong_number f.wrong)
 
 pub scan_faulty : (v : List ℕ) → ScanFaulty v (scan_of v)
 unfolding scan_of

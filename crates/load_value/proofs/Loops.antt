@@ -13,6 +13,7 @@ use Rattle.load_value.specs.declared.Step.TheVariants.{Skip, Quote, Keep, Close,
 use Rattle.load_value.specs.declared.Sizes.{Sizes}
 use Rattle.std.specs.Prelude.{Result, Err}
 use Rattle.load_text.specs.declared.Fault.{Fault}
+use Rattle.load_text.specs.declared.Wrong.TheVariants.{Malformed as IsMalformed}
 use Rattle.load_value.specs.Steps.{between, step_of}
 use Rattle.load_value.specs.Stores.{Put, Puts}
 use Rattle.load_value.specs.Values.{kept, close, ended, counted, no_sizes, scanned, scan_of, written, longest_word, word_of}
@@ -55,7 +56,7 @@ module _ {s : List ℕ} {m : Mode} {z : Sizes} {q i : ℕ} (k : Told s m z q i) 
     pub told_close : {m' : Mode} {z' : Sizes} → r ≡ Close m' → z' ≡ counted z close → Told s m' z' q (i + 1)
     told_close g u = record { within = omega arith; fits = fits_end k.fits u; rest = rw u (told_on g) }
 
-    pub told_bad : r ≡ Malformed → Err (fault 7 i) ≡ scan_of s
+    pub told_bad : r ≡ Malformed → Err (fault IsMalformed i) ≡ scan_of s
     told_bad g = sym (told_on g)
 
 -- ---- the tokens written from the start of d₀ on, up to the place o of d

@@ -12,6 +12,7 @@ use native.Mathlib.Nat.{zero-add}
 use Rattle.load_text.specs.Lines.{fault}
 use Rattle.std.specs.Prelude.{Result, Ok, Err}
 use Rattle.load_text.specs.declared.Fault.{Fault}
+use Rattle.load_text.specs.declared.Wrong.TheVariants.{Malformed as IsMalformed}
 use Rattle.load_value.specs.declared.Mode.{Mode}
 use Rattle.load_value.specs.declared.Step.{Step}
 use Rattle.load_value.specs.declared.Step.TheVariants.{Skip, Quote, Keep, Close, Malformed}
@@ -30,7 +31,7 @@ scan_on (Skip m) q i z l = scan_from m q (i + 1) z l
 scan_on (Quote m) q i z l = scan_from m i (i + 1) z l
 scan_on (Keep m) q i z l = scan_from m q (i + 1) (counted z (kept 0)) l
 scan_on (Close m) q i z l = scan_from m q (i + 1) (counted z close) l
-scan_on Malformed q i z l = Err (fault 7 i)
+scan_on Malformed q i z l = Err (fault IsMalformed i)
 
 module _ (m : Mode) (q i : ℕ) (z : Sizes) (s : List ℕ) (k : ℕ) where
   pub scan_end : length s ≤ k → scan_from m q i z (drop k s) ≡ scanned (ended m q i) (pick m.token (counted z close) z)

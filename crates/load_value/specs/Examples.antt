@@ -6,6 +6,8 @@ use Rattle.load_text.specs.Strings.{bytes}
 use Rattle.load_text.specs.Lines.{fault}
 use Rattle.std.specs.Prelude.{Result, Ok, Err}
 use Rattle.load_text.specs.declared.Fault.{Fault}
+use Rattle.load_text.specs.declared.Wrong.{Wrong}
+use Rattle.load_text.specs.declared.Wrong.TheVariants.{LastBackslash, Malformed, OpenQuote}
 use Rattle.load_value.specs.declared.Sizes.{Sizes}
 use Rattle.load_value.specs.Steps.{step_of, bare_step}
 use Rattle.load_value.specs.Quotes.{closes, closes_from}
@@ -24,23 +26,23 @@ pub record Outcome : Type 0 where
 abbrev tokens : ℕ → ℕ → ℕ → Result Sizes Fault
 tokens n r f = Ok (record { tokens = n; room = r; first = f })
 
-abbrev refused : ℕ → ℕ → Result Sizes Fault
-refused n i = Err (fault n i)
+abbrev refused : Wrong → ℕ → Result Sizes Fault
+refused w i = Err (fault w i)
 
 abbrev pub examples : List Example
 examples =
     -- the first fault from the left, and 8 only at the end
-    record { value = "\"a\\"; scan = refused 9 2; tokens = "a/" } ∷
-    record { value = "a#\\"; scan = refused 7 1; tokens = "a" } ∷
-    record { value = "x \"a#"; scan = refused 8 2; tokens = "x/a#/" } ∷
-    record { value = "\\"; scan = refused 9 0; tokens = "/" } ∷
+    record { value = "\"a\\"; scan = refused LastBackslash 2; tokens = "a/" } ∷
+    record { value = "a#\\"; scan = refused Malformed 1; tokens = "a" } ∷
+    record { value = "x \"a#"; scan = refused OpenQuote 2; tokens = "x/a#/" } ∷
+    record { value = "\\"; scan = refused LastBackslash 0; tokens = "/" } ∷
     -- a comment begins where no token is open
     record { value = "# \"'\\"; scan = tokens 0 0 0; tokens = "" } ∷
     record { value = "  "; scan = tokens 0 0 0; tokens = "" } ∷
-    record { value = "\"\"#"; scan = refused 7 2; tokens = "" } ∷
-    record { value = "\" \"# c"; scan = refused 7 3; tokens = " " } ∷
-    record { value = "a\\ # c"; scan = refused 7 3; tokens = "a " } ∷
-    record { value = "\\## c"; scan = refused 7 2; tokens = "#" } ∷
+    record { value = "\"\"#"; scan = refused Malformed 2; tokens = "" } ∷
+    record { value = "\" \"# c"; scan = refused Malformed 3; tokens = " " } ∷
+    record { value = "a\\ # c"; scan = refused Malformed 3; tokens = "a " } ∷
+    record { value = "\\## c"; scan = refused Malformed 2; tokens = "#" } ∷
     record { value = "a \\# # c"; scan = tokens 2 4 1; tokens = "a/#/" } ∷
     -- an empty token is a token
     record { value = "\"\" a"; scan = tokens 2 3 0; tokens = "/a/" } ∷

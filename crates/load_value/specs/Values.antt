@@ -5,6 +5,7 @@ use Rattle.load_text.specs.Bytes.{longest_name}
 use Rattle.load_text.specs.Lines.{fault}
 use Rattle.std.specs.Prelude.{Result, Ok, Err}
 use Rattle.load_text.specs.declared.Fault.{Fault}
+use Rattle.load_text.specs.declared.Wrong.TheVariants.{LastBackslash, Malformed as IsMalformed, OpenQuote}
 use Rattle.load_value.specs.declared.Mode.{Mode}
 use Rattle.load_value.specs.declared.Step.{Step}
 use Rattle.load_value.specs.declared.Step.TheVariants.{Skip, Quote, Keep, Close, Malformed}
@@ -15,7 +16,7 @@ use Rattle.load_value.specs.Steps.{between, step_of}
 
 -- at the end, i bytes from the value's start: 9 "a value's backslash at line or text end", 8 "quote open at line end"
 abbrev pub ended : Mode → ℕ → ℕ → Result (Unit {0}) Fault
-ended m q i = pick m.escaped (Err (fault 9 (i - 1))) (pick m.quoted (Err (fault 8 q)) (Ok tt))
+ended m q i = pick m.escaped (Err (fault LastBackslash (i - 1))) (pick m.quoted (Err (fault OpenQuote q)) (Ok tt))
 
 -- the way on after a step: q is where the last quoted stretch was opened
 abbrev pub onward : Step → ℕ → ℕ → (Mode → ℕ → Result (Unit {0}) Fault) → Result (Unit {0}) Fault
@@ -23,7 +24,7 @@ onward (Skip m) q i on = on m q
 onward (Quote m) q i on = on m i
 onward (Keep m) q i on = on m q
 onward (Close m) q i on = on m q
-onward Malformed q i on = Err (fault 7 i)
+onward Malformed q i on = Err (fault IsMalformed i)
 
 unfoldable pub fault_from : Mode → ℕ → ℕ → List ℕ → Result (Unit {0}) Fault
 fault_from m q i [] = ended m q i

@@ -7,7 +7,7 @@ ghost use Rattle.load_value.specs.Stores.{Put, Puts};
 ghost use Rattle.base.specs.Folds.{pick};
 ghost use Rattle.load_value.specs.Values.{kept, close, counted, ended, scanned, scan_of, written, word_of};
 
-use load_text::{Fault, LONGEST_NAME, is_white};
+use load_text::{Fault, LONGEST_NAME, Wrong, is_white};
 
 // The longest value that a property which is no command can have: that of a name.
 pub const LONGEST_WORD: usize = LONGEST_NAME;
@@ -182,13 +182,13 @@ fn ended(m: Mode, quote: usize, end: usize, z: Sizes) -> Result<Sizes, Fault>
 {
     if m.escaped {
         return Err(Fault {
-            number: 9,
+            wrong: Wrong::LastBackslash,
             at: before(end),
         });
     }
     if m.quoted {
         return Err(Fault {
-            number: 8,
+            wrong: Wrong::OpenQuote,
             at: quote,
         });
     }
@@ -230,7 +230,10 @@ pub fn scan_value(s: &[u8]) -> Result<Sizes, Fault>
                 m = k;
             }
             Step::Malformed => {
-                return Err(Fault { number: 7, at: i });
+                return Err(Fault {
+                    wrong: Wrong::Malformed,
+                    at: i,
+                });
             }
         }
         i = after;
