@@ -1,13 +1,15 @@
--- What `any`, `all` and `fold` give over the range from 0 to n: the tests and the folds over the numbers below n.
--- Each takes the call's clause `ran`, and what each call of the closure gives: `λ x b q k. search (rules, tests)`.
-use Prim.Native.Nat.{ℕ, zero, suc, ◌+◌}
+-- What `any`, `all` and `fold` give over the range from 0 to n: the tests and the folds over the numbers below n. Each takes the call's clause
+-- `ran`, and what each call of the closure gives: `λ x b q k. search (rules, tests)`. And what stands in an array that `from_fn` made.
+use Prim.Native.Nat.{ℕ, zero, suc, ◌+◌, ◌<◌}
 use native.Mathlib.Omega.{arith}
-use mathlib.Core.Path.{◌≡◌, refl, ap, ◌∙◌}
+use mathlib.Core.Path.{◌≡◌, refl, ap, subst, ◌∙◌}
 use mathlib.Core.Bool.{Bool, true, false, ◌&&◌, ◌||◌}
 use mathlib.Core.List.{List, [], ◌∷◌, ◌++◌}
 use denote.Param.Members.{Mut}
+use lib.ListN.{get_or}
 use Rattle.std.specs.Prelude.{Option}
 use Rattle.std.specs.declared.ops.Range.{Range}
+use Rattle.std.specs.Array.{IsFromFnResult, IsFromFnResultFrom}
 use Rattle.std.specs.Fn.{Called}
 use Rattle.std.specs.Iterator.{Drains, YieldsThen}
 use Rattle.std.specs.List.{FoldsTo, fold as list_fold, list_any, list_all, range_with_len}
@@ -19,6 +21,7 @@ use Rattle.std.proofs.lemmas.Iterator.Search.{all_from_yields_List, any_from_yie
 use Rattle.std.proofs.lemmas.List.Folds.{list_any-append, list_all-append}
 use Rattle.std.proofs.lemmas.List.Sums.{fold-append}
 use Rattle.base.specs.Folds.{fold, some, every}
+use Rattle.base.proofs.Filled.{Filled}
 use Rattle.base.proofs.Tests.{and_all, or_none}
 
 -- the numbers below n + 1 are those below n, and n
@@ -73,3 +76,19 @@ pub fold_from_fold : {A F : Type 0} {g : Mut F (A × (ℕ × Unit {0})) A} (step
     × FoldsTo {P = F × A} (λ a x b. Called g a.0 (a.1, (x, tt)) b.1 b.0) (f, a) xs (q, r))
     → ((b : A) (x : ℕ) (c : A) (q : F) → Called g f (b, (x, tt)) c q → (q ≡ f) × (c ≡ step b x)) → r ≡ fold step a n
 fold_from_fold {g = g} step {n} {a = a} {r = r} ran each = fold_from_yields_List g step a r ran (yielded n) each ∙ fold_below step a n
+
+-- what `array::from_fn` made, from its clause `items`: the closure gives F i at each i
+module _ {A F : Type 0} (g : Mut F (ℕ × Unit {0}) A) (f : F) (V : ℕ → A) (step : (i : ℕ) (y : A) (q : F) → Called g f (i, tt) y q → (q ≡ f) × (y ≡ V i))
+  (l : List A) where
+  made_from : (i n : ℕ) → IsFromFnResultFrom g f l i n → (d : A) (k : ℕ) → k < n → get_or l (i + k) d ≡ V (i + k)
+  made_from i zero h d k m = absurd (omega (arith, m))
+  made_from i (suc n) h d zero m =
+      let e : i + 0 ≡ i = omega arith in
+      rw e (h.2.1 d ∙ (step i h.1 h.0 h.3).1)
+  made_from i (suc n) h d (suc k) m =
+      let e : i + suc k ≡ i + 1 + k = omega arith in
+      rw e (made_from (i + 1) n (subst (λ q. IsFromFnResultFrom g q l (i + 1) n) (step i h.1 h.0 h.3).0 h.4) d k (omega arith))
+
+  pub made_by : (n : ℕ) → IsFromFnResult g f l n → (d : A) → Filled d V n l n
+  made_by n h d =
+      record { long = h.long; at = λ k m. let e : 0 + k ≡ k = omega arith in subst (λ j. get_or l j d ≡ V j) e (made_from 0 n h.each d k m) }
