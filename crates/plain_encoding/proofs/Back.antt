@@ -1,17 +1,16 @@
 -- Written back, numbers that stand for a state or a table are what they were.
-use Prim.Native.Nat.{ℕ, zero, suc, ◌+◌, ◌<◌, ◌≤◌}
+use Prim.Native.Nat.{ℕ, zero, suc, ◌+◌, ◌<◌}
 use mathlib.Core.Bool.{Bool, true, ◌&&◌}
 use mathlib.Core.List.{List, [], ◌∷◌}
 use mathlib.Core.Path.{◌≡◌, refl, sym, ap, ◌∙◌}
-use native.Mathlib.Numerals.{add-one}
 use native.Mathlib.Omega.{arith}
 use lib.Dec.{eqb}
-use lib.ListN.{get_or, length, replicate, set}
+use lib.ListN.{get_or, replicate, set}
 use borrow.Author.Tests.{eqb-true}
 use Rattle.base.specs.Folds.{every, fold}
 use Rattle.base.proofs.Below.{every_true}
-use Rattle.base.proofs.Filled.{Filled, filled_more, filled_none}
 use Rattle.base.proofs.Tests.{and_true}
+use Rattle.plain_encoding.proofs.Laws.{read_at}
 use Rattle.service.specs.Limits.{max_services}
 use Rattle.service.specs.Records.{fresh_record, record_at}
 use Rattle.service.specs.Settings.{default_settings, settings_at}
@@ -36,12 +35,6 @@ unfolding stand_as
 same_placed l a vs h =
     same_fold (λ m k. set m (a + k) (get_or vs k 0)) l per_place
     (λ k q. same_set l (a + k) (sym (eqb-true _ _ ((every_true (λ i. eqb (get_or l (a + i) 0) (get_or vs i 0)) per_place).0 h k q))))
-
--- what was read for each place
-read_at : {A : Type 0} (F : ℕ → A) (a : List A) (d : A) (n : ℕ) → length a ≡ n → (m : ℕ) → m ≤ n
-    → Filled d F n (fold (λ l j. set l j (F j)) a m) m
-read_at F a d n e zero l = filled_none e
-read_at F a d n e (suc m) l = rw (sym (add-one m)) (filled_more (read_at F a d n e m (omega arith)) (omega arith) refl)
 
 -- ---- all places
 

@@ -1,71 +1,37 @@
 // Whether numbers stand for a table or a state: they do where they are what is written of the table or the state that they say.
 ghost use Rattle.std.specs.Prelude.{◌≡◌, ◌+◌, ◌≤◌};
 ghost use Rattle.plain_encoding.specs.Numbers.{all_numbers, per_place};
-ghost use Rattle.plain_encoding.specs.Meaning.{stand_as, is_record, is_settings, is_state, is_table};
+ghost use Rattle.plain_encoding.specs.Meaning.{all_stand, stand_as, is_state, is_table};
 
-use crate::{EACH, FRONT, Numbers, record_from, record_numbers, settings_from, settings_numbers};
-use service::MAX_SERVICES;
+use crate::encoded::Encoded;
+use crate::{EACH, FRONT, Numbers};
+use service::{MAX_SERVICES, Record, Settings};
 
-// The numbers of a place, from there on, are these.
-fn stand_as(numbers: &Numbers, at: usize, line: [u64; EACH]) -> bool
+// The numbers of a place, from there on, are those of the value that they say.
+fn is_meant<T: Encoded>(numbers: &Numbers, at: usize) -> bool
     requires { at + per_place ≤ all_numbers }
-    ensures { result ≡ stand_as numbers.now at line }
+    ensures { result ≡ stand_as numbers.now at (T.encoded (T.decoded numbers.now at)) }
 {
-    let mut same = true;
-    let mut k: usize = 0;
-    while k < EACH {
-        same = same & (numbers[at + k] == line[k]);
-        k += 1;
-    }
-    same
+    let line = T::decode(numbers, at).encode();
+    numbers[at..at + EACH] == line[..]
 }
 
-// The numbers from a place on are those of a record.
-fn is_record(numbers: &Numbers, at: usize) -> bool
-    requires { at + per_place ≤ all_numbers }
-    ensures { result ≡ is_record numbers.now at }
+fn all_meant<T: Encoded>(numbers: &Numbers) -> bool
+    ensures { result ≡ all_stand T.encoded T.decoded numbers.now }
 {
-    let r = record_from(numbers, at);
-    let line = record_numbers(r);
-    stand_as(numbers, at, line)
-}
-
-// The numbers from a place on are those of settings.
-fn is_settings(numbers: &Numbers, at: usize) -> bool
-    requires { at + per_place ≤ all_numbers }
-    ensures { result ≡ is_settings numbers.now at }
-{
-    let v = settings_from(numbers, at);
-    let line = settings_numbers(v);
-    stand_as(numbers, at, line)
+    (0..MAX_SERVICES).all(|s| is_meant::<T>(numbers, FRONT + EACH * s))
 }
 
 // The numbers stand for a state.
 pub fn is_state(numbers: &Numbers) -> bool
     ensures { result ≡ is_state numbers.now }
 {
-    let blank = numbers[1] == 0;
-    let mut all = true;
-    let mut s: usize = 0;
-    while s < MAX_SERVICES {
-        let record = is_record(numbers, FRONT + EACH * s);
-        all = all & record;
-        s += 1;
-    }
-    blank & all
+    numbers[1] == 0 && all_meant::<Record>(numbers)
 }
 
 // The numbers stand for a table.
 pub fn is_table(numbers: &Numbers) -> bool
     ensures { result ≡ is_table numbers.now }
 {
-    let blank = numbers[1] == 0;
-    let mut all = true;
-    let mut s: usize = 0;
-    while s < MAX_SERVICES {
-        let settings = is_settings(numbers, FRONT + EACH * s);
-        all = all & settings;
-        s += 1;
-    }
-    blank & all
+    numbers[1] == 0 && all_meant::<Settings>(numbers)
 }

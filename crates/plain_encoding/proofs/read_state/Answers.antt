@@ -1,6 +1,9 @@
--- `read_state` meets its contract: the clock, and records that were read over fresh ones.
-use Rattle.plain_encoding.proofs.Laws.{state_read}
+-- `read_state` meets its contract: the first number, and the values of all places.
+use Rattle.service.specs.Records.{fresh_record}
+use Rattle.plain_encoding.specs.Encoding.{all_read}
+use Rattle.plain_encoding.specs.Numbers.{state_of}
 use Rattle.plain_encoding.proofs.read_state.Goals as goal
 
 pub returns : goal.returns
-returns c = state_read _ c.fresh-none.ensures c.read_records-records.ensures
+unfolding all_read state_of
+returns c = rw (c.read_places.ensures fresh_record)

@@ -1,14 +1,12 @@
--- `is_table` meets its contract: the places below s have the numbers of settings.
-use Rattle.base.proofs.Loops.{every_all, every_more, folded_none}
-use Rattle.plain_encoding.specs.Meaning.{is_table}
+-- `is_table` meets its contract: nothing stands in front but the first number, and each place has the numbers of what it says.
+use borrow.Author.Tests.{ne_eqb}
+use Rattle.plain_encoding.specs.Meaning.{all_stand, is_table, is_settings}
 use Rattle.plain_encoding.proofs.meaning.is_table.Goals as goal
 
-pub loop-s-init : goal.loop-s-init
-loop-s-init c = folded_none
+pub returns-then-numbers-eq0 : goal.returns-then-numbers-eq0
+unfolding all_stand is_table is_settings
+returns-then-numbers-eq0 c = rw c.if-numbers-eq0.true c.all_meant.ensures
 
-pub loop-s-preserved : goal.loop-s-preserved
-loop-s-preserved c = search every_more
-
-pub returns : goal.returns
+pub returns-else-numbers-eq0 : goal.returns-else-numbers-eq0
 unfolding is_table
-returns c = rw (every_all c.loop-s.invariant c.loop-s-test.false)
+returns-else-numbers-eq0 c = rw (ne_eqb _ _ c.if-numbers-eq0.false)

@@ -1,0 +1,172 @@
+// What has a place among the numbers: a record of the state, or the settings of a service. One loop writes all places, and one reads them.
+ghost use Rattle.std.specs.Prelude.{◌≡◌, ◌+◌, ◌≤◌, ℕ, List, get_or};
+ghost use Rattle.service.specs.Numbers.{settings_from, settings_numbers};
+ghost use Rattle.plain_encoding.specs.Values.{timed, time_of, deadline_of};
+ghost use Rattle.plain_encoding.specs.Encoding.{EncodingLaws, all_read, all_written, record_laws, settings_laws};
+ghost use Rattle.plain_encoding.specs.Numbers.{all_numbers, per_place, placed, record_from, record_numbers};
+
+use crate::{EACH, FRONT, Numbers};
+use service::{
+    Deadline, MAX_SERVICES, Record, Settings, cause_at, cause_number, kind_at, kind_number,
+    phase_at, phase_number, signal_at, signal_number,
+};
+use std::array;
+
+fn is_timed(d: Deadline) -> bool
+    ensures { result ≡ timed d }
+{
+    match d {
+        Deadline::None => false,
+        Deadline::At(_) => true,
+    }
+}
+
+fn time_of(d: Deadline) -> u64
+    ensures { result ≡ time_of d }
+{
+    match d {
+        Deadline::None => 0,
+        Deadline::At(time) => time,
+    }
+}
+
+fn deadline_of(n: u64, time: u64) -> Deadline
+    ensures { result ≡ deadline_of n time }
+{
+    if n == 1 {
+        return Deadline::At(time);
+    }
+    Deadline::None
+}
+
+pub(crate) trait Encoded: Copy {
+    ghost encoded: { Self → List ℕ };
+
+    ghost decoded: { List ℕ → ℕ → Self };
+
+    fn encode(self) -> [u64; EACH]
+        ensures { result ≡ encoded self };
+
+    // The value whose numbers begin at a place.
+    fn decode(numbers: &Numbers, at: usize) -> Self
+        requires { at + per_place ≤ all_numbers }
+        ensures { result ≡ decoded numbers.now at };
+
+    // A place's numbers are sixteen, and the value is read back from them.
+    ghost laws: { EncodingLaws encoded decoded };
+}
+
+impl Encoded for Record {
+    ghost encoded = { record_numbers };
+
+    ghost decoded = { record_from };
+
+    ghost laws = { record_laws };
+
+    fn encode(self) -> [u64; EACH] {
+        [
+            phase_number(self.phase),
+            u64::from(self.wanted),
+            u64::from(self.aside),
+            u64::from(self.live),
+            cause_number(self.cause),
+            u64::from(is_timed(self.deadline)),
+            time_of(self.deadline),
+            u64::from(self.killed),
+            self.not_before,
+            self.last_launch,
+            self.window_start,
+            self.restarts,
+            0,
+            0,
+            0,
+            0,
+        ]
+    }
+
+    fn decode(numbers: &Numbers, at: usize) -> Record {
+        Record {
+            phase: phase_at(numbers[at]),
+            wanted: numbers[at + 1] == 1,
+            aside: numbers[at + 2] == 1,
+            live: numbers[at + 3] == 1,
+            cause: cause_at(numbers[at + 4]),
+            deadline: deadline_of(numbers[at + 5], numbers[at + 6]),
+            killed: numbers[at + 7] == 1,
+            not_before: numbers[at + 8],
+            last_launch: numbers[at + 9],
+            window_start: numbers[at + 10],
+            restarts: numbers[at + 11],
+        }
+    }
+}
+
+impl Encoded for Settings {
+    ghost encoded = { settings_numbers };
+
+    ghost decoded = { settings_from };
+
+    ghost laws = { settings_laws };
+
+    fn encode(self) -> [u64; EACH] {
+        [
+            kind_number(self.kind),
+            u64::from(self.restart),
+            self.delay,
+            self.interval,
+            self.limit,
+            self.start_timeout,
+            self.stop_timeout,
+            signal_number(self.signal),
+            self.hard,
+            self.milestone,
+            self.soft,
+            u64::from(self.has_stop),
+            0,
+            0,
+            0,
+            0,
+        ]
+    }
+
+    fn decode(numbers: &Numbers, at: usize) -> Settings {
+        Settings {
+            kind: kind_at(numbers[at]),
+            restart: numbers[at + 1] == 1,
+            delay: numbers[at + 2],
+            interval: numbers[at + 3],
+            limit: numbers[at + 4],
+            start_timeout: numbers[at + 5],
+            stop_timeout: numbers[at + 6],
+            signal: signal_at(numbers[at + 7]),
+            hard: numbers[at + 8],
+            milestone: numbers[at + 9],
+            soft: numbers[at + 10],
+            has_stop: numbers[at + 11] == 1,
+        }
+    }
+}
+
+// Puts the numbers of a place from there on.
+fn put(numbers: &mut Numbers, at: usize, line: [u64; EACH])
+    requires { at + per_place ≤ all_numbers }
+    ensures { numbers.new ≡ placed numbers.old at line }
+{
+    numbers[at..at + EACH].copy_from_slice(&line);
+}
+
+// Writes a value to each place. What a read past the last would give does not matter.
+pub(crate) fn write_places<T: Encoded>(numbers: &mut Numbers, values: [T; MAX_SERVICES])
+    ensures { (d : T) → numbers.new ≡ all_written T.encoded numbers.old (λ s. get_or values s d) }
+{
+    for s in 0..MAX_SERVICES {
+        put(numbers, FRONT + EACH * s, values[s].encode());
+    }
+}
+
+// The value of each place.
+pub(crate) fn read_places<T: Encoded>(numbers: &Numbers) -> [T; MAX_SERVICES]
+    ensures { (d : T) → result ≡ all_read T.decoded numbers.now d }
+{
+    array::from_fn(|s| T::decode(numbers, FRONT + EACH * s))
+}
