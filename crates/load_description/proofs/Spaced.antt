@@ -10,7 +10,7 @@ use lib.Dec.{eqb}
 use Rattle.base.proofs.Tests.{no_ft, refute, and_true}
 use Rattle.load_value.specs.Values.{is_word, scan_of, spaced}
 use Rattle.load_value.specs.declared.Sizes.{Sizes}
-use Rattle.load_value.specs.declared.Scan.TheVariants.{Tokens}
+use Rattle.std.proofs.Common.{Ok}
 use Rattle.load_value.proofs.Spaced.{has_space, several_spaced, word_spaced}
 use Rattle.load_word.specs.declared.Property.{Property}
 use Rattle.load_word.specs.declared.Property.TheVariants.{Kind, Setting, Command, Link, Unknown}
@@ -43,7 +43,7 @@ module _ (text : List ℕ) (d : Description) (at seen : ℕ) where
   space_outside (Command c) xs ys = refl
   space_outside Unknown xs ys = refl
 
-  module _ (p : Property) (v : List ℕ) {z : Sizes} (scan : scan_of v ≡ Tokens z) where
+  module _ (p : Property) (v : List ℕ) {z : Sizes} (scan : scan_of v ≡ Ok z) where
     -- a word is read as the value's string
     pub word_read_lem : is_word z ≡ true → single_read text d p at seen z v ≡ word_read text d p at seen (spaced v)
     word_read_lem w = rw (w, word_spaced v scan w)

@@ -1,18 +1,18 @@
 -- Of the code: readings of whole descriptions: which line and which byte decides, and with which number. One table, one statement.
-use Rattle.std.specs.Prelude.{ℕ, ◌≡◌, refl, List, [], ◌∷◌, map}
+use Rattle.std.specs.Prelude.{ℕ, ◌≡◌, refl, List, [], ◌∷◌, Result, Ok, Err, map}
 use Prim.Native.String.{String}
 use Rattle.base.specs.Folds.{some}
 use Rattle.load_text.specs.Strings.{bytes, same, index_from, part_of}
 use Rattle.load_text.specs.Bytes.{run}
 use Rattle.load_text.specs.Lines.{line_of, lines_of, bad_from, line_from, line_number, column_from, column_number, opening, fault}
-use Rattle.load_text.specs.declared.Verdict.{Verdict}
-use Rattle.load_text.specs.declared.Verdict.TheVariants.{Good, Bad}
+use Rattle.load_text.specs.declared.Fault.{Fault}
 use Rattle.load_value.specs.Steps.{step_of, bare_step}
 use Rattle.load_value.specs.Values.{fault_from, marks_from, sizes_from, scan_of, written, leading, word_of}
 use Rattle.service.specs.Numbers.{settings_from}
 use Rattle.load_word.specs.Words.{flag_of, no_of, kind_of, signal_names, signal_of, name_bytes, is_name}
 use Rattle.load_word.specs.Decimals.{digit_of, read_of, decimal_from, time_end, time_of, count_end, count_of}
 use Rattle.load_word.specs.Properties.{property_names, property_of, setting_of}
+use Rattle.load_description.specs.declared.Description.{Description}
 use Rattle.load_description.specs.Settings.{value_at, word_at, known}
 use Rattle.load_description.specs.Lines.{dependency_read, word_read, tokens_read, property_read, line_read}
 use Rattle.load_description.specs.Texts.{completion, lines_read, text_read}
@@ -20,29 +20,32 @@ use Rattle.load_description.specs.Texts.{completion, lines_read, text_read}
 -- a text with the verdict on it, and the line and the column of the offset in it
 pub record Example : Type 0 where
   pub text : String
-  pub verdict : Verdict
+  pub verdict : Result (Unit {0}) Fault
   pub line : ℕ
   pub column : ℕ
 
 pub record Outcome : Type 0 where
-  pub verdict : Verdict
+  pub verdict : Result (Unit {0}) Fault
   pub line : ℕ
   pub column : ℕ
 
-abbrev offset : Verdict → ℕ
-offset Good = 0
-offset (Bad f) = f.at
+abbrev good : Result (Unit {0}) Fault
+good = Ok tt
 
-abbrev refused : ℕ → ℕ → Verdict
-refused n i = Bad (fault n i)
+abbrev offset : Result (Unit {0}) Fault → ℕ
+offset (Ok u) = 0
+offset (Err f) = f.at
+
+abbrev refused : ℕ → ℕ → Result (Unit {0}) Fault
+refused n i = Err (fault n i)
 
 abbrev pub examples : List Example
 examples =
     record { text = ""; verdict = refused 13 0; line = 1; column = 1 } ∷
-    record { text = "type=internal"; verdict = Good; line = 1; column = 1 } ∷
-    record { text = " # x\n\ntype : internal # y\n"; verdict = Good; line = 1; column = 1 } ∷
+    record { text = "type=internal"; verdict = good; line = 1; column = 1 } ∷
+    record { text = " # x\n\ntype : internal # y\n"; verdict = good; line = 1; column = 1 } ∷
     record { text = "type=process\n"; verdict = refused 14 0; line = 1; column = 1 } ∷
-    record { text = "type=process\ncommand= /bin/x  y\n"; verdict = Good; line = 1; column = 1 } ∷
+    record { text = "type=process\ncommand= /bin/x  y\n"; verdict = good; line = 1; column = 1 } ∷
     -- what is no name and sign is 7, and a well-formed name that is not in the list 10
     record { text = "Type=internal"; verdict = refused 7 0; line = 1; column = 1 } ∷
     record { text = "type2=internal"; verdict = refused 7 4; line = 1; column = 5 } ∷
@@ -60,8 +63,8 @@ examples =
     record { text = "type=a#b"; verdict = refused 7 6; line = 1; column = 7 } ∷
     record { text = "type= \"internal"; verdict = refused 8 6; line = 1; column = 7 } ∷
     record { text = "type=internal\\\nrestart=yes"; verdict = refused 9 13; line = 1; column = 14 } ∷
-    record { text = "type=\"internal\""; verdict = Good; line = 1; column = 1 } ∷
-    record { text = "type=in\\ternal"; verdict = Good; line = 1; column = 1 } ∷
+    record { text = "type=\"internal\""; verdict = good; line = 1; column = 1 } ∷
+    record { text = "type=in\\ternal"; verdict = good; line = 1; column = 1 } ∷
     record { text = "type= process \"\""; verdict = refused 11 6; line = 1; column = 7 } ∷
     record { text = "type="; verdict = refused 11 5; line = 1; column = 6 } ∷
     record { text = "type=internal\nrestart= # yes"; verdict = refused 11 23; line = 2; column = 10 } ∷
@@ -77,19 +80,23 @@ examples =
     record { text = "\n\ntype=  \r\n"; verdict = refused 11 10; line = 3; column = 9 } ∷
     record { text = "  bogus"; verdict = refused 7 7; line = 1; column = 8 } ∷
     record { text = "#\n  bogus \t\ntype=internal"; verdict = refused 7 11; line = 2; column = 10 } ∷
-    record { text = "type=internal\ncommand = \"a\" #x \"b"; verdict = Good; line = 1; column = 1 } ∷
+    record { text = "type=internal\ncommand = \"a\" #x \"b"; verdict = good; line = 1; column = 1 } ∷
     record { text = "command=a#b"; verdict = refused 7 9; line = 1; column = 10 } ∷
     record { text = "x = \"ab"; verdict = refused 10 0; line = 1; column = 1 } ∷
     record { text = "command= \"a\" \"b"; verdict = refused 8 13; line = 1; column = 14 } ∷
     record { text = "type=internal\n# é\ncommand=Ã© \u{2} \u{1}\n"; verdict = refused 6 29; line = 3; column = 12 } ∷
     -- a repeat is never the 17th
-    record { text = "depends-on=a\ndepends-on=b\ndepends-on=c\ndepends-on=d\ndepends-on=e\ndepends-on=f\ndepends-on=g\ndepends-on=h\ndepends-on=i\ndepends-on=j\ndepends-on=k\ndepends-on=l\nwaits-for=a\nwaits-for=b\nwaits-for=c\nwaits-for=d\ndepends-on=\"a\"\ntype=internal"; verdict = Good; line = 1; column = 1 } ∷
+    record { text = "depends-on=a\ndepends-on=b\ndepends-on=c\ndepends-on=d\ndepends-on=e\ndepends-on=f\ndepends-on=g\ndepends-on=h\ndepends-on=i\ndepends-on=j\ndepends-on=k\ndepends-on=l\nwaits-for=a\nwaits-for=b\nwaits-for=c\nwaits-for=d\ndepends-on=\"a\"\ntype=internal"; verdict = good; line = 1; column = 1 } ∷
     record { text = "depends-on=a\ndepends-on=b\ndepends-on=c\ndepends-on=d\ndepends-on=e\ndepends-on=f\ndepends-on=g\ndepends-on=h\ndepends-on=i\ndepends-on=j\ndepends-on=k\ndepends-on=l\nwaits-for=a\nwaits-for=b\nwaits-for=c\nwaits-for=d\ndepends-on=\"a\"\nwaits-for= e\n"; verdict = refused 12 230; line = 18; column = 12 } ∷
     []
 
+abbrev verdict_of : Result Description Fault → Result (Unit {0}) Fault
+verdict_of (Ok d) = good
+verdict_of (Err f) = Err f
+
 abbrev outcome : Example → Outcome
 outcome e =
-    let v = (text_read (bytes e.text)).answer in
+    let v = verdict_of (text_read (bytes e.text)) in
     record { verdict = v; line = line_number (bytes e.text) (offset v); column = column_number (bytes e.text) (offset v) }
 
 abbrev given : Example → Outcome

@@ -1,5 +1,5 @@
 -- Trusted: what is read of one description: nothing yet, what a line does to it, and whether a dependency is among those that it has.
-use Rattle.std.specs.Prelude.{ℕ, ◌+◌, Bool, ◌&&◌, true, false, List, eqb, leb, get_or, set, replicate, drop}
+use Rattle.std.specs.Prelude.{ℕ, ◌+◌, Bool, ◌&&◌, true, false, List, Some, None, eqb, leb, get_or, set, replicate, drop}
 use Rattle.base.specs.Folds.{pick, some}
 use Rattle.service.specs.Numbers.{with_number, kind_number, flag_number}
 use Rattle.service.specs.Settings.{default_settings}
@@ -24,9 +24,8 @@ max_dependencies = 16
 abbrev pub no_dependency : Named
 no_dependency = record { link = DependsOn; at = 0 }
 
--- at 0, where no value begins, nothing is kept
 abbrev pub nothing_kept : Kept
-nothing_kept = record { command = 0; stop = 0 }
+nothing_kept = record { command = None; stop = None }
 
 -- all settings by default, no type, nothing kept, no dependencies
 abbrev pub blank : Description
@@ -57,14 +56,14 @@ abbrev pub with_command : Description → CommandName → ℕ → Description
 with_command d Start at = record {
   settings = d.settings;
   typed = d.typed;
-  kept = record { command = at; stop = d.kept.stop };
+  kept = record { command = Some at; stop = d.kept.stop };
   count = d.count;
   dependencies = d.dependencies;
 }
 with_command d Stop at = record {
   settings = with_stop d.settings;
   typed = d.typed;
-  kept = record { command = d.kept.command; stop = at };
+  kept = record { command = d.kept.command; stop = Some at };
   count = d.count;
   dependencies = d.dependencies;
 }

@@ -2,15 +2,17 @@
 #![tactic(auto)]
 
 ghost use Rattle.std.specs.Prelude.{◌≡◌, ◌≤◌};
+ghost use Rattle.load_text.specs.Lines.{fault};
 ghost use Rattle.load_value.specs.Stores.{Puts};
-ghost use Rattle.load_description.specs.Settings.{blank, value_at, word_at, link_number, max_dependencies, taken_of, is_dependency, known};
-ghost use Rattle.load_description.specs.Lines.{outside, command_read, dependency_read, kind_read, setting_read, word_read, tokens_read};
+ghost use Rattle.load_value.specs.Values.{is_word};
+ghost use Rattle.load_description.specs.Settings.{blank, value_at, word_at, max_dependencies, taken_of, is_dependency, known};
+ghost use Rattle.load_description.specs.Lines.{command_read, dependency_read, word_read, tokens_read};
 ghost use Rattle.load_description.specs.Texts.{needs_command, completion};
 
-use load_text::{Fault, Verdict, line_end, part, same_bytes};
+use load_text::{Fault, line_end, part, same_bytes};
 use load_value::{LONGEST_WORD, Sizes, WORD_ROOM, write_word};
-use load_word::{Change, Command, Link, Property, Worth, is_name, read_kind, read_setting};
-use service::{Kind, Settings, kind_at};
+use load_word::{Command, Link, Property, is_name, read_kind, read_setting};
+use service::{Kind, Settings};
 
 // How many dependencies a service may have.
 pub const MAX_DEPENDENCIES: usize = 16;
@@ -22,15 +24,15 @@ pub struct Dependency {
     pub at: usize,
 }
 
-// The offsets where the values that are kept begin; 0 where there is none.
+// The offsets where the values that are kept begin.
 #[derive(Clone, Copy)]
 pub struct Kept {
-    pub command: usize,
-    pub stop: usize,
+    pub command: Option<usize>,
+    pub stop: Option<usize>,
 }
 
 // What the lines so far say: the settings, but for the services depended on; whether there was a type; what is kept; the dependencies, of
-// which there are `count`.
+// which there are `count`. A flag for the type: the settings hold one by default, so an Option would hold it twice.
 #[derive(Clone, Copy)]
 pub struct Description {
     pub settings: Settings,
@@ -50,18 +52,37 @@ pub enum Effect {
     Dependency(Link, usize),
 }
 
-// What the line reader answers.
+// Where a line's value is in its text: where it begins, and its first byte that is no white space.
 #[derive(Clone, Copy)]
-pub enum Line {
-    Good(Effect),
-    Bad(Fault),
+pub struct Start {
+    pub at: usize,
+    pub seen: usize,
 }
 
-// The settings so far, and whether all is good.
-#[derive(Clone, Copy)]
-pub struct Read {
-    pub answer: Verdict,
-    pub description: Description,
+impl Start {
+    // A value outside its property's rule.
+    fn outside(self) -> Fault
+        ensures { result ≡ fault 11 self.seen }
+    {
+        Fault {
+            number: 11,
+            at: self.seen,
+        }
+    }
+}
+
+impl Dependency {
+    // It is one of the kind on the word.
+    fn is_on(self, text: &[u8], link: Link, word: &[u8]) -> bool
+        ensures { result ≡ is_dependency text.now self link word.now }
+    {
+        if self.link == link {
+            let mut buffer = [0u8; WORD_ROOM];
+            let n = write_word_at(text, self.at, &mut buffer);
+            return same_bytes(part(&buffer, 0, n), word);
+        }
+        false
+    }
 }
 
 impl Description {
@@ -77,16 +98,110 @@ impl Description {
             settings: Settings::default(),
             typed: false,
             kept: Kept {
-                command: 0,
-                stop: 0,
+                command: None,
+                stop: None,
             },
             count: 0,
             dependencies: [none; MAX_DEPENDENCIES],
         }
     }
+
+    // It has a dependency of the kind on the word.
+    fn has(&self, text: &[u8], link: Link, word: &[u8]) -> bool
+        ensures { result ≡ known text.now self.now link word.now }
+    {
+        (0..taken(self.count)).any(|k| self.dependencies[k].is_on(text, link, word))
+    }
+
+    // A dependency on a word.
+    #[tactic(auto, unfolding(crate::specs::Lines::dependency_read))]
+    fn read_dependency(
+        &self,
+        text: &[u8],
+        link: Link,
+        start: Start,
+        word: &[u8],
+    ) -> Result<Effect, Fault>
+        ensures { result ≡ dependency_read text.now self.now link start.at start.seen word.now }
+    {
+        if self.has(text, link, word) {
+            return Ok(Effect::Nothing);
+        }
+        if self.count < MAX_DEPENDENCIES {
+            return Ok(Effect::Dependency(link, start.at));
+        }
+        Err(Fault {
+            number: 12,
+            at: start.seen,
+        })
+    }
+
+    // A line of a property that takes a word.
+    #[tactic(auto, unfolding(crate::specs::Lines::word_read))]
+    fn read_word(
+        &self,
+        text: &[u8],
+        p: Property,
+        start: Start,
+        word: &[u8],
+    ) -> Result<Effect, Fault>
+        ensures { result ≡ word_read text.now self.now p start.at start.seen word.now }
+    {
+        match p {
+            Property::Kind => read_kind(word).map(Effect::Kind).ok_or(start.outside()),
+            Property::Setting(s) => read_setting(s, word, self.settings)
+                .map(Effect::Settings)
+                .ok_or(start.outside()),
+            Property::Link(link) => {
+                if is_name(word) {
+                    return self.read_dependency(text, link, start, word);
+                }
+                Err(start.outside())
+            }
+            Property::Command(_) | Property::Unknown => Err(start.outside()),
+        }
+    }
+
+    // A line whose value has no fault.
+    #[tactic(auto, unfolding(crate::specs::Lines::tokens_read))]
+    pub fn read_tokens(
+        &self,
+        text: &[u8],
+        p: Property,
+        start: Start,
+        sizes: Sizes,
+        value: &[u8],
+    ) -> Result<Effect, Fault>
+        ensures { result ≡ tokens_read text.now self.now p start.at start.seen sizes value.now }
+    {
+        if let Property::Command(c) = p {
+            return read_command(c, start, sizes);
+        }
+        if is_word(sizes) {
+            let mut buffer = [0u8; WORD_ROOM];
+            let n = write_word(value, &mut buffer);
+            return self.read_word(text, p, start, part(&buffer, 0, n));
+        }
+        Err(start.outside())
+    }
+
+    // 13 and 14.
+    #[tactic(auto, unfolding(crate::specs::Texts::completion))]
+    pub fn complete(&self) -> Result<(), Fault>
+        ensures { result ≡ completion self.now }
+    {
+        if !self.typed {
+            return Err(Fault { number: 13, at: 0 });
+        }
+        if needs_command(self.settings.kind) && self.kept.command.is_none() {
+            return Err(Fault { number: 14, at: 0 });
+        }
+        Ok(())
+    }
 }
 
 // The value that begins at an offset goes to the line's end.
+#[tactic(auto, unfolding(crate::specs::Settings::value_at))]
 pub fn value_at(text: &[u8], at: usize) -> &[u8]
     ensures { result.now ≡ value_at text.now at }
 {
@@ -94,35 +209,11 @@ pub fn value_at(text: &[u8], at: usize) -> &[u8]
 }
 
 // Writes the word that begins at an offset to buffer, and returns its length.
+#[tactic(auto, unfolding(crate::specs::Settings::word_at))]
 pub fn write_word_at(text: &[u8], at: usize, buffer: &mut [u8]) -> usize
     ensures { Puts buffer.old 0 (word_at text.now at) buffer.new result }
 {
     write_word(value_at(text, at), buffer)
-}
-
-// A kind of dependency by its number.
-fn link_number(l: Link) -> u64
-    ensures { result ≡ link_number l }
-{
-    match l {
-        Link::DependsOn => 0,
-        Link::DependsMs => 1,
-        Link::WaitsFor => 2,
-    }
-}
-
-// The dependency is one of the kind on the word.
-fn is_dependency(text: &[u8], e: Dependency, l: Link, word: &[u8]) -> bool
-    ensures { result ≡ is_dependency text.now e l word.now }
-{
-    let own = e.link;
-    let alike = link_number(own) == link_number(l);
-    if alike {
-        let mut buffer = [0u8; WORD_ROOM];
-        let n = write_word_at(text, e.at, &mut buffer);
-        return same_bytes(part(&buffer, 0, n), word);
-    }
-    false
 }
 
 // How many places of the dependencies are taken.
@@ -130,171 +221,29 @@ pub fn taken(count: usize) -> usize
     ensures value { result ≡ taken_of count }
     ensures few { result ≤ max_dependencies }
 {
-    if count <= MAX_DEPENDENCIES {
-        return count;
-    }
-    MAX_DEPENDENCIES
+    count.min(MAX_DEPENDENCIES)
 }
 
-// The description has a dependency of the kind on the word.
-fn is_known(text: &[u8], d: Description, l: Link, word: &[u8]) -> bool
-    ensures { result ≡ known text.now d l word.now }
+// A value that is exactly one token, of 1 to 32 bytes.
+fn is_word(sizes: Sizes) -> bool
+    ensures { result ≡ is_word sizes }
 {
-    let n = taken(d.count);
-    let mut found = false;
-    let mut k: usize = 0;
-    while k < n {
-        let e = d.dependencies[k];
-        let hit = is_dependency(text, e, l, word);
-        found = found | hit;
-        k += 1;
-    }
-    found
-}
-
-// A value outside its property's rule.
-fn outside(seen: usize) -> Line
-    ensures { result ≡ outside seen }
-{
-    Line::Bad(Fault {
-        number: 11,
-        at: seen,
-    })
-}
-
-// What a type's word makes of its line.
-fn kind_line(seen: usize, w: Worth) -> Line
-    ensures { result ≡ kind_read seen w }
-{
-    let Worth::Value(n) = w else {
-        return outside(seen);
-    };
-    Line::Good(Effect::Kind(kind_at(n)))
-}
-
-// What a setting's word makes of its line.
-fn setting_line(seen: usize, c: Change) -> Line
-    ensures { result ≡ setting_read seen c }
-{
-    match c {
-        Change::To(v) => Line::Good(Effect::Settings(v)),
-        Change::Refused => outside(seen),
-    }
-}
-
-// A dependency on a word.
-fn read_dependency(
-    text: &[u8],
-    d: Description,
-    l: Link,
-    at: usize,
-    seen: usize,
-    word: &[u8],
-) -> Line
-    ensures { result ≡ dependency_read text.now d l at seen word.now }
-{
-    let repeated = is_known(text, d, l, word);
-    let room = d.count < MAX_DEPENDENCIES;
-    if repeated {
-        return Line::Good(Effect::Nothing);
-    }
-    if room {
-        return Line::Good(Effect::Dependency(l, at));
-    }
-    Line::Bad(Fault {
-        number: 12,
-        at: seen,
-    })
-}
-
-// A line of a property that takes a word.
-fn read_word_line(
-    text: &[u8],
-    d: Description,
-    p: Property,
-    at: usize,
-    seen: usize,
-    word: &[u8],
-) -> Line
-    ensures { result ≡ word_read text.now d p at seen word.now }
-{
-    match p {
-        Property::Kind => kind_line(seen, read_kind(word)),
-        Property::Setting(s) => {
-            let v = d.settings;
-            setting_line(seen, read_setting(s, word, v))
-        }
-        Property::Link(l) => {
-            let good = is_name(word);
-            if good {
-                return read_dependency(text, d, l, at, seen, word);
-            }
-            outside(seen)
-        }
-        Property::Command(_) => outside(seen),
-        Property::Unknown => outside(seen),
-    }
+    sizes.tokens == 1 && 0 < sizes.first && sizes.first <= LONGEST_WORD
 }
 
 // A line of a command.
-fn command_line(c: Command, at: usize, seen: usize, sizes: Sizes) -> Line
-    ensures { result ≡ command_read c at seen sizes }
+fn read_command(c: Command, start: Start, sizes: Sizes) -> Result<Effect, Fault>
+    ensures { result ≡ command_read c start.at start.seen sizes }
 {
-    let good = 0 < sizes.first;
-    if good {
-        return Line::Good(Effect::Command(c, at));
+    if 0 < sizes.first {
+        return Ok(Effect::Command(c, start.at));
     }
-    outside(seen)
-}
-
-// A line whose value has no fault.
-pub fn read_tokens(
-    text: &[u8],
-    d: Description,
-    p: Property,
-    at: usize,
-    seen: usize,
-    sizes: Sizes,
-    value: &[u8],
-) -> Line
-    ensures { result ≡ tokens_read text.now d p at seen sizes value.now }
-{
-    if let Property::Command(c) = p {
-        return command_line(c, at, seen, sizes);
-    }
-    let single = (sizes.tokens == 1) & (0 < sizes.first) & (sizes.first <= LONGEST_WORD);
-    if single {
-        let mut buffer = [0u8; WORD_ROOM];
-        let n = write_word(value, &mut buffer);
-        return read_word_line(text, d, p, at, seen, part(&buffer, 0, n));
-    }
-    outside(seen)
+    Err(start.outside())
 }
 
 // A service of this type is launched by a command.
 fn needs_command(k: Kind) -> bool
     ensures { result ≡ needs_command k }
 {
-    match k {
-        Kind::Process => true,
-        Kind::Scripted => true,
-        Kind::Internal => false,
-    }
-}
-
-// 13 and 14.
-pub fn complete(d: Description) -> Verdict
-    ensures { result ≡ completion d }
-{
-    let missing = !d.typed;
-    let settings = d.settings;
-    let kind = settings.kind;
-    let lacking = needs_command(kind) & (d.kept.command == 0);
-    if missing {
-        return Verdict::Bad(Fault { number: 13, at: 0 });
-    }
-    if lacking {
-        return Verdict::Bad(Fault { number: 14, at: 0 });
-    }
-    Verdict::Good
+    matches!(k, Kind::Process | Kind::Scripted)
 }

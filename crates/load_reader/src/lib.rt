@@ -1,218 +1,129 @@
 // A description read line by line: each line's answer, what it does to the settings, and the whole text.
 #![tactic(auto)]
 
-ghost use Rattle.std.specs.Prelude.{◌≡◌, ◌+◌, ◌<◌, length};
+ghost use Rattle.std.specs.Prelude.{◌≡◌, ◌+◌, ◌<◌, Ok, Some, length};
 ghost use Rattle.load_text.specs.Lines.{lines_of};
 ghost use Rattle.load_text.proofs.Lines.{Inside};
-ghost use Rattle.load_word.specs.Properties.{is_unknown};
-ghost use Rattle.load_description.specs.Settings.{blank, with_settings, with_command, with_dependency, affected};
-ghost use Rattle.load_description.specs.Lines.{is_silent, property_read, opening_read};
-ghost use Rattle.load_description.specs.Texts.{read_as, read_on, lines_read, text_read};
+ghost use Rattle.load_description.specs.Settings.{blank, affected};
+ghost use Rattle.load_description.specs.Lines.{property_read, line_read};
+ghost use Rattle.load_description.specs.Texts.{lines_read, text_read};
 
-use load_description::{
-    Dependency, Description, Effect, Line, MAX_DEPENDENCIES, Read, complete, read_tokens,
-};
-use load_text::{
-    Fault, Opening, Places, Verdict, first_bad, line_end, opening_of, part, tail, white_end,
-};
-use load_value::{Scan, scan_value};
-use load_word::{Command, Link, Property, find_property, with_kind};
-use service::Settings;
+use load_description::{Dependency, Description, Effect, MAX_DEPENDENCIES, Start};
+use load_text::{Fault, Places, first_bad, line_end, opening_of, part, tail, white_end};
+use load_value::scan_value;
+use load_word::{Command, Property, find_property, with_kind};
 
-// Other settings.
-fn with_settings(d: Description, typed: bool, v: Settings) -> Description
-    ensures { result ≡ with_settings d typed v }
+// What a line does to the description: a setting or a command takes the place of an earlier one, and dependencies add up.
+fn affect(d: &mut Description, e: Effect)
+    requires { d.old.count < 18446744073709551615 }
+    ensures { d.new ≡ affected d.old e }
 {
-    Description {
-        settings: v,
-        typed,
-        ..d
-    }
-}
-
-// A command, in the place of an earlier one.
-fn with_command(d: Description, c: Command, at: usize) -> Description
-    ensures { result ≡ with_command d c at }
-{
-    let mut next = d;
-    match c {
-        Command::Start => {
-            next.kept.command = at;
-        }
-        Command::Stop => {
-            next.settings.has_stop = true;
-            next.kept.stop = at;
-        }
-    }
-    next
-}
-
-// A dependency more.
-fn with_dependency(d: Description, link: Link, at: usize) -> Description
-    requires { d.count < 18446744073709551615 }
-    ensures { result ≡ with_dependency d link at }
-{
-    let mut next = d;
-    let k = d.count;
-    let after = k + 1;
-    if k < MAX_DEPENDENCIES {
-        next.dependencies[k] = Dependency { link, at };
-    }
-    next.count = after;
-    next
-}
-
-// What a line does to the description.
-fn affect(d: Description, e: Effect) -> Description
-    requires { d.count < 18446744073709551615 }
-    ensures { result ≡ affected d e }
-{
-    let old = d.settings;
     match e {
-        Effect::Nothing => d,
-        Effect::Kind(k) => with_settings(d, true, with_kind(k, old)),
-        Effect::Settings(v) => with_settings(d, d.typed, v),
-        Effect::Command(c, at) => with_command(d, c, at),
-        Effect::Dependency(l, at) => with_dependency(d, l, at),
-    }
-}
-
-fn is_unknown(p: Property) -> bool
-    ensures { result ≡ is_unknown p }
-{
-    match p {
-        Property::Kind => false,
-        Property::Setting(_) => false,
-        Property::Command(_) => false,
-        Property::Link(_) => false,
-        Property::Unknown => true,
+        Effect::Nothing => {}
+        Effect::Kind(k) => {
+            d.settings = with_kind(k, d.settings);
+            d.typed = true;
+        }
+        Effect::Settings(v) => {
+            d.settings = v;
+        }
+        Effect::Command(c, at) => match c {
+            Command::Start => {
+                d.kept.command = Some(at);
+            }
+            Command::Stop => {
+                d.settings.has_stop = true;
+                d.kept.stop = Some(at);
+            }
+        },
+        Effect::Dependency(link, at) => {
+            let k = d.count;
+            d.count += 1;
+            let places = &mut d.dependencies[..];
+            if k < places.len() {
+                places[k] = Dependency { link, at };
+            }
+        }
     }
 }
 
 // A line by its property; the line begins at the offset `from`.
+#[tactic(auto, unfolding(load_description::specs::Lines::property_read))]
 fn read_property(
     text: &[u8],
-    d: Description,
+    d: &Description,
     from: usize,
     line: &[u8],
     s: Places,
     p: Property,
-) -> Line
-    requires { (from + length line.now < 9223372036854775808) × Inside (length line.now) (Opening.Named s) }
-    ensures { result ≡ property_read text.now d from line.now s p }
+) -> Result<Effect, Fault>
+    requires { (from + length line.now < 9223372036854775808) × Inside (length line.now) (Ok (Some s)) }
+    ensures { result ≡ property_read text.now d.now from line.now s p }
 {
-    let start = from + s.from;
-    let v = s.value;
-    let unknown = is_unknown(p);
-    if unknown {
-        return Line::Bad(Fault {
+    if matches!(p, Property::Unknown) {
+        return Err(Fault {
             number: 10,
-            at: start,
+            at: from + s.from,
         });
     }
-    let at = from + v;
-    let seen = from + white_end(line, v);
-    let value = tail(line, v);
+    let start = Start {
+        at: from + s.value,
+        seen: from + white_end(line, s.value),
+    };
+    let value = tail(line, s.value);
     match scan_value(value) {
-        Scan::Tokens(z) => read_tokens(text, d, p, at, seen, z, value),
-        Scan::Bad(f) => Line::Bad(Fault {
-            number: f.number,
-            at: at + f.at,
+        Ok(sizes) => d.read_tokens(text, p, start, sizes, value),
+        Err(f) => Err(Fault {
+            at: start.at + f.at,
+            ..f
         }),
     }
 }
 
-// The answer to a line by how it begins.
-fn read_line(text: &[u8], d: Description, from: usize, line: &[u8], o: Opening) -> Line
-    requires { (from + length line.now < 9223372036854775808) × Inside (length line.now) o }
-    ensures { result ≡ opening_read text.now d from line.now o }
+// The answer to a line, which begins at the offset `from`.
+#[tactic(auto, unfolding(load_description::specs::Lines::line_read))]
+fn read_line(text: &[u8], d: &Description, from: usize, line: &[u8]) -> Result<Effect, Fault>
+    requires { from + length line.now < 9223372036854775808 }
+    ensures { result ≡ line_read text.now d.now from line.now }
 {
-    match o {
-        Opening::Nothing => Line::Good(Effect::Nothing),
-        Opening::Named(s) => {
-            let a = s.from;
-            let e = s.end;
-            let p = find_property(part(line, a, e));
+    match opening_of(line) {
+        Ok(None) => Ok(Effect::Nothing),
+        Ok(Some(s)) => {
+            let p = find_property(part(line, s.from, s.end));
             read_property(text, d, from, line, s, p)
         }
-        Opening::Bad(f) => Line::Bad(Fault {
-            number: f.number,
+        Err(f) => Err(Fault {
             at: from + f.at,
+            ..f
         }),
-    }
-}
-
-fn says_nothing(o: Opening) -> bool
-    ensures { result ≡ is_silent o }
-{
-    match o {
-        Opening::Nothing => true,
-        Opening::Named(s) => false,
-        Opening::Bad(f) => false,
-    }
-}
-
-// What a line's answer ends the text with.
-fn ended(a: Line, d: Description) -> Read
-    requires { d.count < 18446744073709551615 }
-    ensures { result ≡ read_on a d (read_as Verdict.Good) }
-{
-    match a {
-        Line::Good(e) => {
-            let next = affect(d, e);
-            Read {
-                answer: Verdict::Good,
-                description: next,
-            }
-        }
-        Line::Bad(f) => Read {
-            answer: Verdict::Bad(f),
-            description: d,
-        },
     }
 }
 
 // The lines of a text with no bad byte.
-fn read_lines(text: &[u8]) -> Read
+fn read_lines(text: &[u8]) -> Result<Description, Fault>
     ensures { result ≡ lines_read text.now blank 0 (lines_of text.now) }
 {
     let mut d = Description::blank();
-    let mut from: usize = 0;
+    let mut from = 0;
+    // A while: it goes on by whole lines, each as long as it is.
     while from < text.len() {
-        let e = line_end(text, from);
-        let next = e + 1;
-        let line = part(text, from, e);
-        let opening = opening_of(line);
-        let silent = says_nothing(opening);
-        if silent {
-            from = next;
-        } else {
-            let answer = read_line(text, d, from, line, opening);
-            let Line::Good(effect) = answer else {
-                return ended(answer, d);
-            };
-            d = affect(d, effect);
-            from = next;
-        }
+        let end = line_end(text, from);
+        let answer = read_line(text, &d, from, part(text, from, end));
+        let Ok(effect) = answer else {
+            return answer.and(Ok(d));
+        };
+        affect(&mut d, effect);
+        from = end + 1;
     }
-    let answer = complete(d);
-    Read {
-        answer,
-        description: d,
-    }
+    d.complete()?;
+    Ok(d)
 }
 
 // The settings of a description, or its first fault.
-pub fn read_text(text: &[u8]) -> Read
+#[tactic(auto, unfolding(load_description::specs::Texts::text_read))]
+pub fn read_text(text: &[u8]) -> Result<Description, Fault>
     ensures { result ≡ text_read text.now }
 {
-    let found = first_bad(text);
-    let Verdict::Good = found else {
-        let none = Description::blank();
-        return Read {
-            answer: found,
-            description: none,
-        };
-    };
+    first_bad(text)?;
     read_lines(text)
 }

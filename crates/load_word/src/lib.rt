@@ -46,7 +46,7 @@ pub enum Command {
 }
 
 // Those whose value names a service.
-#[derive(Clone, Copy)]
+#[derive(Clone, Copy, PartialEq, Eq)]
 pub enum Link {
     DependsOn,
     DependsMs,
