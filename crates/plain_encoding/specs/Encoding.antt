@@ -1,12 +1,13 @@
--- Of the code: an encoding of values by the numbers of a place, and its laws, which both encodings keep; all places written and read by one.
-use Rattle.std.specs.Prelude.{ℕ, List, ◌≡◌, length, refl, replicate, set}
-use Rattle.base.specs.Folds.{fold}
+-- Of the code: an encoding of values by the numbers of a place, and its laws, which both encodings keep; all places written, read and tested by one.
+use Rattle.std.specs.Prelude.{ℕ, Bool, List, ◌≡◌, length, refl, replicate, set}
+use Rattle.base.specs.Folds.{every, fold}
 use Rattle.service.specs.Limits.{max_services}
 use Rattle.service.specs.Numbers.{flag_number, settings_from, settings_numbers}
 use Rattle.service.specs.declared.Deadline.{Deadline}
 use Rattle.service.specs.declared.Deadline.TheVariants.{None as NoDeadline, At}
 use Rattle.service.specs.declared.Record.{Record}
 use Rattle.service.proofs.Numbering.{cause_back, flag_back, phase_back, settings_back}
+use Rattle.plain_encoding.specs.Meaning.{stand_as}
 use Rattle.plain_encoding.specs.Numbers.{per_place, place_of, placed, record_from, record_numbers}
 use Rattle.plain_encoding.specs.Values.{deadline_of, time_of, timed}
 
@@ -22,6 +23,10 @@ all_written encoded l f = fold (λ m s. placed m (place_of s) (encoded (f s))) l
 -- the values of all places of l, put over copies of d
 unfoldable pub all_read : {A : Type 0} → (List ℕ → ℕ → A) → List ℕ → A → List A
 all_read decoded l d = fold (λ m s. set m s (decoded l (place_of s))) (replicate max_services d) max_services
+
+-- the numbers of each place are those of the value that they say
+unfoldable pub all_stand : {A : Type 0} → (A → List ℕ) → (List ℕ → ℕ → A) → List ℕ → Bool
+all_stand encoded decoded l = every (λ s. stand_as l (place_of s) (encoded (decoded l (place_of s)))) max_services
 
 -- ---- the laws of records and of settings
 

@@ -11,10 +11,6 @@ use Rattle.plain_encoding.specs.Numbers.{per_place, place_of, record_from, recor
 unfoldable pub stand_as : List ℕ → ℕ → List ℕ → Bool
 stand_as l a vs = every (λ k. eqb (get_or l (a + k) 0) (get_or vs k 0)) per_place
 
--- so are the numbers of each place
-unfoldable pub all_stand : {A : Type 0} → (A → List ℕ) → (List ℕ → ℕ → A) → List ℕ → Bool
-all_stand encoded decoded l = every (λ s. stand_as l (place_of s) (encoded (decoded l (place_of s)))) max_services
-
 unfoldable pub is_record : List ℕ → ℕ → Bool
 is_record l a = stand_as l a (record_numbers (record_from l a))
 

@@ -1,7 +1,8 @@
 // Whether numbers stand for a table or a state: they do where they are what is written of the table or the state that they say.
 ghost use Rattle.std.specs.Prelude.{◌≡◌, ◌+◌, ◌≤◌};
 ghost use Rattle.plain_encoding.specs.Numbers.{all_numbers, per_place};
-ghost use Rattle.plain_encoding.specs.Meaning.{all_stand, stand_as, is_state, is_table};
+ghost use Rattle.plain_encoding.specs.Encoding.{all_stand};
+ghost use Rattle.plain_encoding.specs.Meaning.{stand_as, is_state, is_table};
 
 use crate::encoded::Encoded;
 use crate::{EACH, FRONT, Numbers};

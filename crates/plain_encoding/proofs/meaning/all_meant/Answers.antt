@@ -2,7 +2,7 @@
 use borrow.Author.Rules.{rules}
 use borrow.Author.Tests.{tests}
 use Rattle.base.proofs.Chains.{every_from_all}
-use Rattle.plain_encoding.specs.Meaning.{all_stand}
+use Rattle.plain_encoding.specs.Encoding.{all_stand}
 use Rattle.plain_encoding.proofs.meaning.all_meant.Goals as goal
 
 pub returns : goal.returns

@@ -1,6 +1,7 @@
 -- `is_table` meets its contract: nothing stands in front but the first number, and each place has the numbers of what it says.
 use borrow.Author.Tests.{ne_eqb}
-use Rattle.plain_encoding.specs.Meaning.{all_stand, is_table, is_settings}
+use Rattle.plain_encoding.specs.Encoding.{all_stand}
+use Rattle.plain_encoding.specs.Meaning.{is_table, is_settings}
 use Rattle.plain_encoding.proofs.meaning.is_table.Goals as goal
 
 pub returns-then-numbers-eq0 : goal.returns-then-numbers-eq0
