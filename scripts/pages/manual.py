@@ -19,6 +19,9 @@ WORDS = os.path.join('scripts', 'people', 'words.py')
 # The definitions that make a refusal of a number, and which of their arguments it is. `Refused` is the answer's own variant.
 MAKERS = {('crates/load_text/specs/Lines.antt', 'fault'): 0, (REFUSALS, 'bare'): 0, (LOADING, 'tested'): 2}
 
+# The definition that has the number of each thing that can be wrong with a text, and its file. `fault` is given the thing by its case.
+WRONG, WRONGS = 'wrong_number', 'crates/load_text/specs/Numbers.antt'
+
 # The definitions that hand on a number that they are given: what they are given is read where they are called, or was made by one of these.
 HAND_ON = {'fault', 'bare', 'tested', 'passed'}
 
@@ -62,6 +65,16 @@ def makers(tree, file):
     return found
 
 
+def wrongs(tree, file):
+    """The number of each thing that can be wrong with a text, by the name that it has in a file."""
+    by_case = dict(re.findall(r'(?m)^' + WRONG + r' (\w+) = (\d+)$', tree.bare(WRONGS))) if tree.exists(WRONGS) else {}
+    found = {}
+    for names in re.findall(r'declared\.Wrong\.TheVariants\.\{([^}]*)\}', tree.bare(file)):
+        for there, here in re.findall(r'(\w+)(?: as (\w+))?', names):
+            found[here or there] = by_case.get(there)
+    return found
+
+
 def right_sides(text):
     """What stands after the sign of each clause of a definition: what stands before it is a pattern, and makes nothing."""
     clauses = re.split(r'(?m)^(?=\S)', text)[2:]
@@ -81,10 +94,11 @@ def numbers_of(tree):
     """The numbers of all refusals that the load comes down to, and each definition that makes one whose number does not show."""
     numbers, hidden = set(), []
     for file, name in sorted(tree.comes_down_to(LOADING, ['load'])):
-        for number in given_in(tree, file, name):
+        for said in given_in(tree, file, name):
+            number = wrongs(tree, file).get(said, said)
             if number and number.isdigit():
                 numbers.add(int(number))
-            elif name not in HAND_ON and not re.fullmatch(r'\w+\.number', number or ''):
+            elif name not in HAND_ON and not re.fullmatch(r'\w+\.(?:number|wrong)|\(?' + WRONG + r'\b.*', number or ''):
                 hidden.append(f'{file}: {name} makes a refusal, and its number does not show: {number}')
     return numbers, hidden
 
