@@ -2,7 +2,7 @@
 use Rattle.std.specs.Prelude.{ℕ, Bool, false}
 use Rattle.service.specs.declared.Phase.TheVariants.{Down}
 use Rattle.service.specs.declared.Cause.TheVariants.{None as NoCause, Fell}
-use Rattle.service.specs.declared.Deadline.TheVariants.{None as NoDeadline}
+use Rattle.std.specs.Prelude.{None}
 use Rattle.service.specs.declared.Settings.{Settings}
 use Rattle.service.specs.declared.Record.{Record}
 use Rattle.service.specs.Records.{moved, with_aside, with_count, with_killed, with_not_before, with_wanted, with_window}
@@ -10,7 +10,7 @@ use Rattle.rules.specs.Settling.{settled_count, settled_not_before, settled_wind
 
 -- a settled record whose times stay
 abbrev pub at_rest : Bool → Bool → Record → Record
-at_rest wanted aside r = moved Down NoCause NoDeadline (with_killed false (with_wanted wanted (with_aside aside r)))
+at_rest wanted aside r = moved Down NoCause None (with_killed false (with_wanted wanted (with_aside aside r)))
 
 -- a fall counted in its window, and the time before which the next launch does not come
 abbrev pub fall_counted : Settings → ℕ → Record → Record

@@ -7,14 +7,14 @@ use Rattle.service.specs.Numbers.{last_cause, last_kind, last_phase, last_signal
 use Rattle.service.specs.Records.{fresh_record, fresh_state, moved, with_count, with_launch, with_live}
 use Rattle.service.specs.Settings.{default_settings}
 use Rattle.service.specs.declared.Cause.TheVariants.{User}
-use Rattle.service.specs.declared.Deadline.TheVariants.{At}
+use Rattle.std.specs.Prelude.{Some}
 use Rattle.service.specs.declared.Phase.TheVariants.{Ending}
 use Rattle.service.specs.declared.Record.{Record}
 use Rattle.plain_encoding.specs.Meaning.{is_record, is_settings, is_state, is_table, stand_as}
 use Rattle.plain_encoding.specs.Numbers.{all_numbers, per_place, place_of, record_from, record_numbers, state_of}
 
 abbrev pub ended : Record
-ended = with_count 2 (with_launch 40000 (with_live true (moved Ending User (At 150000) fresh_record)))
+ended = with_count 2 (with_launch 40000 (with_live true (moved Ending User (Some 150000) fresh_record)))
 
 pub fresh_read : state_of (replicate all_numbers 0) ≡ fresh_state
 unfolding state_of record_from fresh_state

@@ -2,17 +2,16 @@
 use Rattle.std.specs.Prelude.{ℕ, Bool, true, false}
 use Rattle.base.specs.Folds.{pick}
 use Rattle.service.specs.Numbers.{flag_of}
-use Rattle.service.specs.declared.Deadline.{Deadline}
-use Rattle.service.specs.declared.Deadline.TheVariants.{None as NoDeadline, At}
+use Rattle.std.specs.Prelude.{Option, Some, None}
 
 -- a deadline is two numbers: whether there is one, and its time
-abbrev pub timed : Deadline → Bool
-timed NoDeadline = false
-timed (At d) = true
+abbrev pub timed : Option ℕ → Bool
+timed None = false
+timed (Some d) = true
 
-abbrev pub time_of : Deadline → ℕ
-time_of NoDeadline = 0
-time_of (At d) = d
+abbrev pub time_of : Option ℕ → ℕ
+time_of None = 0
+time_of (Some d) = d
 
-abbrev pub deadline_of : ℕ → ℕ → Deadline
-deadline_of n d = pick (flag_of n) (At d) NoDeadline
+abbrev pub deadline_of : ℕ → ℕ → Option ℕ
+deadline_of n d = pick (flag_of n) (Some d) None

@@ -17,7 +17,7 @@ use Rattle.service.specs.Records.{fresh_state, is_starting, record_at, with_reco
 use Rattle.service.specs.Settings.{form_of, is_passing, settings_at}
 use Rattle.service.specs.declared.Cause.{Cause}
 use Rattle.service.specs.declared.Cause.TheVariants.{Failed, Fell, None as NoCause, Released, User}
-use Rattle.service.specs.declared.Deadline.TheVariants.{At, None as NoDeadline}
+use Rattle.std.specs.Prelude.{Some, None}
 use Rattle.service.specs.declared.Form.{Form}
 use Rattle.service.specs.declared.Form.TheVariants.{Bare, Passing, Direct, Delayed}
 use Rattle.service.specs.declared.Phase.{Phase}
@@ -124,7 +124,7 @@ module _ (now : ℕ) (past : now ≤ last_clock) (v : Settings) (g : Ranged v) (
   set_deadline_lem : (wait : ℕ) → wait ≤ longest_time → deadline_in_range (deadline_in now wait) ≡ true
   set_deadline_lem wait l = go (eqb wait 0)
     where
-      go : (a : Bool) → deadline_in_range (pick a NoDeadline (At (now + wait))) ≡ true
+      go : (a : Bool) → deadline_in_range (pick a None (Some (now + wait))) ≡ true
       go true = refl
       go false = le-leb (now + wait) last_time (omega arith)
 

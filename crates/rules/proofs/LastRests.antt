@@ -12,8 +12,7 @@ use Rattle.base.proofs.Tests.{and_true, either, imp_true, no_ft, not_both, not_t
 use Rattle.service.specs.Limits.{max_services}
 use Rattle.service.specs.Records.{active, is_down, is_ending, is_none, is_starting, is_up, is_waiting, record_at, with_record}
 use Rattle.service.specs.Settings.{form_of, settings_at, starts_first}
-use Rattle.service.specs.declared.Deadline.{Deadline}
-use Rattle.service.specs.declared.Deadline.TheVariants.{At, None as NoDeadline}
+use Rattle.std.specs.Prelude.{Option, Some, None}
 use Rattle.service.specs.declared.Form.{Form}
 use Rattle.service.specs.declared.Form.TheVariants.{Bare, Passing, Direct, Delayed}
 use Rattle.service.specs.declared.Phase.{Phase}
@@ -53,7 +52,7 @@ drops : (v : Settings) (now : ℕ) (r' r : Record) → heavy_at now r' ≡ false
 unfolding weigh_last
 drops v now r' r e f = rw (e, f) (lit< tt)
 
-pub starting_deadline : (k : Form) (a b : Deadline) → starts_first k ≡ true → begun_deadline k a b ≡ a
+pub starting_deadline : (k : Form) (a b : Option ℕ) → starts_first k ≡ true → begun_deadline k a b ≡ a
 starting_deadline Bare a b e = no_ft e
 starting_deadline Passing a b e = refl
 starting_deadline Direct a b e = no_ft e
@@ -85,7 +84,7 @@ not_due : (now wait : ℕ) → due now (deadline_in now wait) ≡ false
 unfolding due
 not_due now wait = go (eqb wait 0) refl
   where
-    go : (b : Bool) → eqb wait 0 ≡ b → due now (pick b NoDeadline (At (now + wait))) ≡ false
+    go : (b : Bool) → eqb wait 0 ≡ b → due now (pick b None (Some (now + wait))) ≡ false
     go true q = refl
     go false q = lt-leb (now + wait) now (let ne : (wait ≡ 0 → ⊥) = eqb-false wait 0 q in omega arith)
 

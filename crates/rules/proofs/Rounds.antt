@@ -16,7 +16,7 @@ use Rattle.base.proofs.Sums.{sum_bound, sum_le, sum_lt, sum_term}
 use Rattle.base.proofs.Tests.{either, no_ft, not_both, not_false, not_true, or_not, refute, tests}
 use Rattle.service.specs.Records.{active, is_down, is_ending, is_starting, is_up, is_user, record_at}
 use Rattle.service.specs.Settings.{form_of, settings_at}
-use Rattle.service.specs.declared.Deadline.TheVariants.{At}
+use Rattle.std.specs.Prelude.{Some}
 use Rattle.service.specs.declared.Phase.{Phase}
 use Rattle.service.specs.declared.Phase.TheVariants.{Ending}
 use Rattle.service.specs.declared.Record.{Record}
@@ -244,7 +244,7 @@ module _ (t : Table) (tf : table_formed t ≡ true) (ts : TableSound t) (nz : No
       ∙ ending_lives (form_of (settings_at t s)) (record_at n.state s).phase (record_at n.state s).live (record_at n.state s).cause (shapes f s l) e
 
   -- past its deadline in a quiet state, a service is not starting, and one that is ending has been killed
-  module _ (x : State) (q : Stays t x) (s : ℕ) (l : s < t.count) (e : ℕ) (at-e : (record_at x s).deadline ≡ At e) (past : e ≤ x.clock) where
+  module _ (x : State) (q : Stays t x) (s : ℕ) (l : s < t.count) (e : ℕ) (at-e : (record_at x s).deadline ≡ Some e) (past : e ≤ x.clock) where
     is_due : due x.clock (record_at x s).deadline ≡ true
     unfolding due
     is_due = rw at-e (le-leb e x.clock past)
@@ -320,7 +320,7 @@ module _ (t : Table) (tf : table_formed t ≡ true) (ts : TableSound t) (nz : No
 
       -- a deadline of the reading that still stands is past
       overdue : (s : ℕ) → s < t.count → timing (record_at waited.state s).phase ≡ true → (record_at still.state s).deadline ≡ (record_at waited.state s).deadline
-          → (e : ℕ) × ((record_at still.state s).deadline ≡ At e) × (e ≤ still.state.clock)
+          → (e : ℕ) × ((record_at still.state s).deadline ≡ Some e) × (e ≤ still.state.clock)
       overdue s l b d =
           let k = at_waited.reached.timed s l b in
           let p : k.0 ≤ c = past s k.0 l k.1 in

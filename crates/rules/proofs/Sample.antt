@@ -13,8 +13,7 @@ use Rattle.base.specs.Sets.{has_bit, within}
 use Rattle.base.proofs.Tests.{no_ft}
 use Rattle.service.specs.Records.{fresh_state, record_at, with_record}
 use Rattle.service.specs.Settings.{settings_at}
-use Rattle.service.specs.declared.Deadline.{Deadline}
-use Rattle.service.specs.declared.Deadline.TheVariants.{At, None as NoDeadline}
+use Rattle.std.specs.Prelude.{Option, Some, None}
 use Rattle.service.specs.declared.Phase.TheVariants.{Down}
 use Rattle.rules.specs.Calls.{Call, after_calls, check, clock, end, next, outcome, run, start, stop_all}
 use Rattle.rules.specs.Demand.{NoZeroTimeout, Now, Reported, Round, WoundDown, accepted, another, call, deadline_kill, empty, eventless, fed, fresh_now, here, moments, moments_by, no_rounds, now_after, now_at, read_back, round, wound}
@@ -42,13 +41,13 @@ only P h zero l = h
 only P h (suc s) l = absurd (not-suc-le-zero (le_of_suc-le-suc l))
 
 -- the time of a deadline, and 0 for none
-abbrev time_of : Deadline → ℕ
-time_of NoDeadline = 0
-time_of (At d) = d
+abbrev time_of : Option ℕ → ℕ
+time_of None = 0
+time_of (Some d) = d
 
-abbrev is_set : Deadline → Bool
-is_set NoDeadline = false
-is_set (At d) = true
+abbrev is_set : Option ℕ → Bool
+is_set None = false
+is_set (Some d) = true
 
 -- the first round sends TERM; the second, past the deadline, KILL, and the end is reported
 unfoldable pub first_read : Now
@@ -78,7 +77,7 @@ first_round =
     round {n = all_stopped} {waited = all_stopped} {read = first_read} {still = first_quiet} {reported = first_quiet} {over = first_quiet} {pause = []} {between = []} {acts = run room room ∷ []} {ends = []} {rest = []} 0
     (empty {n = all_stopped})
     refl
-    (λ s e. only (λ i. (record_at all_stopped.state i).deadline ≡ At e → e ≤ 0) (λ d. no_ft (ap is_set d)) s)
+    (λ s e. only (λ i. (record_at all_stopped.state i).deadline ≡ Some e → e ≤ 0) (λ d. no_ft (ap is_set d)) s)
     (empty {n = first_read})
     record { calls = call {n = first_read} {n' = first_quiet} {cs = []} (run room room) refl (empty {n = first_quiet}); between = refl; quiet = refl }
     (empty {n = first_quiet})
@@ -91,7 +90,7 @@ second_round =
     round {n = first_quiet} {waited = first_quiet} {read = second_read} {still = second_quiet} {reported = second_reported} {over = second_over} {pause = []} {between = []} {acts = next ∷ next ∷ []} {ends = end 0 false ∷ []} {rest = run room room ∷ []} 200000
     (empty {n = first_quiet})
     refl
-    (λ s e. only (λ i. (record_at first_quiet.state i).deadline ≡ At e → e ≤ 200000) (λ d. rw (← (ap time_of d)) (lit≤ tt)) s)
+    (λ s e. only (λ i. (record_at first_quiet.state i).deadline ≡ Some e → e ≤ 200000) (λ d. rw (← (ap time_of d)) (lit≤ tt)) s)
     (empty {n = second_read})
     record {
       calls = call {n = second_read} {n' = second_quiet} {cs = next ∷ []} next refl (call {n = killed} {n' = second_quiet} {cs = []} next refl (empty {n = second_quiet}));

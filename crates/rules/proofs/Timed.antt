@@ -8,7 +8,7 @@ use Rattle.base.specs.Folds.{pick}
 use Rattle.base.proofs.Tests.{no_ft}
 use Rattle.service.specs.Records.{is_ending, is_starting, is_waiting, record_at}
 use Rattle.service.specs.Settings.{form_of, settings_at, starts_first}
-use Rattle.service.specs.declared.Deadline.TheVariants.{At}
+use Rattle.std.specs.Prelude.{Some}
 use Rattle.service.specs.declared.Form.{Form}
 use Rattle.service.specs.declared.Phase.{Phase}
 use Rattle.service.specs.declared.Phase.TheVariants.{Down, Ending, Starting, Up, Waiting}
@@ -57,7 +57,7 @@ expire_timing = simp finite at test_expire_timing
 
 -- a deadline is set
 abbrev pub HasDeadline : Record → Type 0
-HasDeadline r = (e : ℕ) × (r.deadline ≡ At e)
+HasDeadline r = (e : ℕ) × (r.deadline ≡ Some e)
 
 abbrev pub TimedAt : Record → Type 0
 TimedAt r = timing r.phase ≡ true → HasDeadline r
@@ -66,7 +66,7 @@ TimedAt r = timing r.phase ≡ true → HasDeadline r
 abbrev pub Timed : Table → State → Type 0
 Timed t x = (s : ℕ) → s < t.count → TimedAt (record_at x s)
 
-deadline_set_lem : (now wait : ℕ) → wait ≢ 0 → deadline_in now wait ≡ At (now + wait)
+deadline_set_lem : (now wait : ℕ) → wait ≢ 0 → deadline_in now wait ≡ Some (now + wait)
 deadline_set_lem now wait h = rw (ne_eqb wait 0 h)
 
 module _ (t : Table) (nz : NoZeroTimeout t) (x : State) (s : ℕ) (l : s < t.count) (h : TimedAt (record_at x s)) where
@@ -87,7 +87,7 @@ module _ (t : Table) (nz : NoZeroTimeout t) (x : State) (s : ℕ) (l : s < t.cou
   leaves_timed End f = λ e. (x.clock + (settings_at t s).stop_timeout, deadline_set_lem x.clock (settings_at t s).stop_timeout (nz s l).1)
   leaves_timed Expire f = λ e. go (is_starting (record_at x s).phase)
     where
-      go : (b : Bool) → (d : ℕ) × (pick b (deadline_in x.clock (settings_at t s).stop_timeout) (record_at x s).deadline ≡ At d)
+      go : (b : Bool) → (d : ℕ) × (pick b (deadline_in x.clock (settings_at t s).stop_timeout) (record_at x s).deadline ≡ Some d)
       go true = (x.clock + (settings_at t s).stop_timeout, deadline_set_lem x.clock (settings_at t s).stop_timeout (nz s l).1)
       go false = h (expire_timing (record_at x s).phase (not (record_at x s).killed) ((expire_fits t x s).0 f).which)
 

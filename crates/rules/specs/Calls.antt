@@ -1,21 +1,11 @@
 -- Trusted: the calls: what each gives back, its refusals in the order of checks, and the state after a list of them.
-use Rattle.std.specs.Prelude.{ℕ, ◌*◌, Bool, ◌&&◌, List, [], ◌∷◌, leb, ltb, length}
+use Rattle.std.specs.Prelude.{ℕ, ◌*◌, Bool, ◌&&◌, List, [], ◌∷◌, Option, Result, Ok, Err, leb, ltb, length}
 use Rattle.base.specs.Folds.{pick}
-use Rattle.service.specs.declared.Deadline.{Deadline}
 use Rattle.service.specs.declared.Action.{Action}
 use Rattle.service.specs.declared.State.{State}
 use Rattle.service.specs.declared.Table.{Table}
-use Rattle.service.specs.declared.EventAnswer.{EventAnswer}
-use Rattle.service.specs.declared.EventAnswer.TheVariants.{Done, Refused as EventRefused}
-use Rattle.service.specs.declared.ActionAnswer.{ActionAnswer}
-use Rattle.service.specs.declared.ActionAnswer.TheVariants.{Act, Refused as ActionRefused}
-use Rattle.service.specs.declared.RunAnswer.{RunAnswer}
-use Rattle.service.specs.declared.RunAnswer.TheVariants.{Ran as RanTo, Refused as RunRefused}
-use Rattle.service.specs.declared.QueryAnswer.{QueryAnswer}
-use Rattle.service.specs.declared.QueryAnswer.TheVariants.{Earliest, Refused as QueryRefused}
-use Rattle.service.specs.declared.Changed.{Changed}
-use Rattle.service.specs.declared.Stepped.{Stepped}
-use Rattle.service.specs.declared.Ran.{Ran}
+use Rattle.service.specs.declared.Answered.{Answered}
+use Rattle.service.specs.declared.Refusal.{Refusal}
 use Rattle.service.specs.Limits.{last_clock}
 use Rattle.service.specs.Records.{record_at}
 use Rattle.service.specs.Numbers.{refusal_number}
@@ -36,7 +26,7 @@ pub data Answer : Type 0 where
   done : Answer
   acted : Action → Answer
   ran : ℕ → Answer
-  told : Deadline → Answer
+  told : Option ℕ → Answer
 
 -- what a call gives back, and what the lent slices hold then (empty for a call that lends none)
 pub record Outcome : Type 0 where
@@ -110,30 +100,30 @@ after_calls t x (c ∷ cs) = after_calls t (outcome t x c).state cs
 
 -- ---- what the program's answers say, as paper 01's numbers and values
 
-abbrev pub event_answer : EventAnswer → Answer
-event_answer Done = done
-event_answer (EventRefused k) = refused (refusal_number k)
+abbrev pub event_answer : Result (Unit {0}) Refusal → Answer
+event_answer (Ok _) = done
+event_answer (Err k) = refused (refusal_number k)
 
-abbrev pub action_answer : ActionAnswer → Answer
-action_answer (Act a) = acted a
-action_answer (ActionRefused k) = refused (refusal_number k)
+abbrev pub action_answer : Result Action Refusal → Answer
+action_answer (Ok a) = acted a
+action_answer (Err k) = refused (refusal_number k)
 
-abbrev pub run_answer : RunAnswer → Answer
-run_answer (RanTo n) = ran n
-run_answer (RunRefused k) = refused (refusal_number k)
+abbrev pub run_answer : Result ℕ Refusal → Answer
+run_answer (Ok n) = ran n
+run_answer (Err k) = refused (refusal_number k)
 
-abbrev pub query_answer : QueryAnswer → Answer
-query_answer (Earliest d) = told d
-query_answer (QueryRefused k) = refused (refusal_number k)
+abbrev pub query_answer : Result (Option ℕ) Refusal → Answer
+query_answer (Ok d) = told d
+query_answer (Err k) = refused (refusal_number k)
 
-abbrev pub changed_outcome : Changed → Outcome
+abbrev pub changed_outcome : Answered (Unit {0}) → Outcome
 changed_outcome r = record { answer = event_answer r.answer; state = r.state; services = []; actions = [] }
 
-abbrev pub stepped_outcome : Stepped → Outcome
+abbrev pub stepped_outcome : Answered Action → Outcome
 stepped_outcome r = record { answer = action_answer r.answer; state = r.state; services = []; actions = [] }
 
-abbrev pub ran_outcome : Ran → List ℕ → List ℕ → Outcome
+abbrev pub ran_outcome : Answered ℕ → List ℕ → List ℕ → Outcome
 ran_outcome r ss as' = record { answer = run_answer r.answer; state = r.state; services = ss; actions = as' }
 
-abbrev pub query_outcome : QueryAnswer → State → Outcome
+abbrev pub query_outcome : Result (Option ℕ) Refusal → State → Outcome
 query_outcome a x = record { answer = query_answer a; state = x; services = []; actions = [] }

@@ -3,7 +3,7 @@ use Rattle.std.specs.Prelude.{ℕ, suc, ◌+◌, ◌*◌, ◌≤◌, ◌<◌, �
 use Rattle.base.specs.Folds.{listed}
 use Rattle.base.specs.Links.{Path}
 use Rattle.service.specs.declared.Phase.TheVariants.{Down}
-use Rattle.service.specs.declared.Deadline.TheVariants.{At}
+use Rattle.std.specs.Prelude.{Some}
 use Rattle.service.specs.declared.Action.{Action}
 use Rattle.service.specs.declared.Action.TheVariants.{Quiet, Moved, Launch, StopCommand, Signal}
 use Rattle.service.specs.declared.State.{State}
@@ -256,7 +256,7 @@ pub data Round (t : Table) : Now → List Call → Now → Type 0 where
   round : {n waited read still reported over : Now} {pause between acts ends rest : List Call} (c : ℕ)
       → Stretch t n pause waited
       → accepted t waited.state (clock c) ≡ true
-      → ((s e : ℕ) → s < t.count → (record_at waited.state s).deadline ≡ At e → e ≤ c)
+      → ((s e : ℕ) → s < t.count → (record_at waited.state s).deadline ≡ Some e → e ≤ c)
       → Stretch t (now_after t waited (clock c)) between read
       → ToQuiet t read acts still
       → Stretch t still ends reported

@@ -7,7 +7,7 @@ use Rattle.service.specs.declared.Phase.{Phase}
 use Rattle.service.specs.declared.Phase.TheVariants.{Down, Waiting, Starting, Up, Ending}
 use Rattle.service.specs.declared.Cause.{Cause}
 use Rattle.service.specs.declared.Cause.TheVariants.{None as NoCause, User, Released, Fell, Failed}
-use Rattle.service.specs.declared.Deadline.TheVariants.{None as NoDeadline}
+use Rattle.std.specs.Prelude.{None}
 use Rattle.service.specs.declared.Settings.{Settings}
 use Rattle.service.specs.declared.Record.{Record}
 use Rattle.service.specs.declared.State.{State}
@@ -74,7 +74,7 @@ dead r = with_live false r
 
 -- "Starting: good gives up (no deadline, cause kept)"
 abbrev pub started_up : Record → Record
-started_up r = moved Up r.cause NoDeadline r
+started_up r = moved Up r.cause None r
 
 -- the end of a start brings the service up
 abbrev pub brings : Settings → Bool → Bool

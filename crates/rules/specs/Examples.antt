@@ -8,7 +8,7 @@ use Rattle.service.specs.Records.{fresh_state, record_at, with_record}
 use Rattle.service.specs.Numbers.{settings_from}
 use Rattle.service.specs.Settings.{process, settings_at}
 use Rattle.service.specs.declared.Action.TheVariants.{Launch, Moved, Quiet, Signal}
-use Rattle.service.specs.declared.Deadline.TheVariants.{At, None as NoDeadline}
+use Rattle.std.specs.Prelude.{Some, None}
 use Rattle.service.specs.declared.Signal.TheVariants.{Term}
 use Rattle.service.specs.declared.State.{State}
 use Rattle.service.specs.declared.Table.{Table}
@@ -98,11 +98,11 @@ abbrev query_restart : Played
 query_restart =
     played lone
     (query ∷ start 0 ∷ next ∷ next ∷ clock 1000 ∷ end 0 false ∷ next ∷ query ∷ clock 2000 ∷ query ∷ [])
-    (told NoDeadline ∷ done ∷ acted (Moved 0) ∷ acted (Launch 0) ∷ done ∷ done ∷ acted (Moved 0) ∷ told (At 2000) ∷ done ∷ told NoDeadline ∷ [])
+    (told None ∷ done ∷ acted (Moved 0) ∷ acted (Launch 0) ∷ done ∷ done ∷ acted (Moved 0) ∷ told (Some 2000) ∷ done ∷ told None ∷ [])
 
 -- a scripted service started at 0 has until 10
 abbrev query_timeout : Played
-query_timeout = played scripts (start 0 ∷ next ∷ next ∷ query ∷ []) (done ∷ acted (Moved 0) ∷ acted (Launch 0) ∷ told (At 10) ∷ [])
+query_timeout = played scripts (start 0 ∷ next ∷ next ∷ query ∷ []) (done ∷ acted (Moved 0) ∷ acted (Launch 0) ∷ told (Some 10) ∷ [])
 
 -- THE TABLE
 abbrev pub examples : List Played

@@ -8,8 +8,7 @@ use Rattle.service.specs.declared.Signal.TheVariants.{None as NoSignal, Hup, Int
 use Rattle.service.specs.declared.Phase.{Phase}
 use Rattle.service.specs.declared.Phase.TheVariants.{Down, Waiting, Starting, Up, Ending}
 use Rattle.service.specs.declared.Cause.TheVariants.{User, Released, Fell, Failed}
-use Rattle.service.specs.declared.Deadline.{Deadline}
-use Rattle.service.specs.declared.Deadline.TheVariants.{None as NoDeadline, At}
+use Rattle.std.specs.Prelude.{Option, Some, None}
 use Rattle.service.specs.declared.Action.{Action}
 use Rattle.service.specs.declared.Action.TheVariants.{Quiet, Moved, Launch, StopCommand, Signal}
 use Rattle.service.specs.declared.Settings.{Settings}
@@ -40,13 +39,13 @@ nothing_to_end Direct hasStop live = not live
 nothing_to_end Delayed hasStop live = not live
 
 -- the clock is at or past a deadline
-unfoldable pub due : ℕ → Deadline → Bool
-due now NoDeadline = false
-due now (At d) = leb d now
+unfoldable pub due : ℕ → Option ℕ → Bool
+due now None = false
+due now (Some d) = leb d now
 
 -- "Deadline = clock + timeout; none if 0"
-abbrev pub deadline_in : ℕ → ℕ → Deadline
-deadline_in now timeout = pick (eqb timeout 0) NoDeadline (At (now + timeout))
+abbrev pub deadline_in : ℕ → ℕ → Option ℕ
+deadline_in now timeout = pick (eqb timeout 0) None (Some (now + timeout))
 
 -- ---- whom a rule fits
 
@@ -100,7 +99,7 @@ begun_live Passing live = true
 begun_live Direct live = true
 begun_live Delayed live = true
 
-abbrev pub begun_deadline : Form → Deadline → Deadline → Deadline
+abbrev pub begun_deadline : Form → Option ℕ → Option ℕ → Option ℕ
 begun_deadline Bare new old = old
 begun_deadline Passing new old = new
 begun_deadline Direct new old = old

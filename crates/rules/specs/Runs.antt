@@ -1,8 +1,7 @@
 -- Trusted: a run to quiet, and the query.
 use Rattle.std.specs.Prelude.{ℕ, ◌*◌, List, leb, ltb, set}
 use Rattle.base.specs.Folds.{pick, fold, first}
-use Rattle.service.specs.declared.Deadline.{Deadline}
-use Rattle.service.specs.declared.Deadline.TheVariants.{None as NoDeadline, At}
+use Rattle.std.specs.Prelude.{Option, Some, None}
 use Rattle.service.specs.declared.Action.{Action}
 use Rattle.service.specs.declared.Record.{Record}
 use Rattle.service.specs.declared.State.{State}
@@ -35,19 +34,19 @@ written_actions t x l = written (λ k. action_number (action_after t x k)) l (st
 -- ---- the query
 
 -- a time above the clock, or none
-abbrev pub above : ℕ → Deadline → Deadline
-above now NoDeadline = NoDeadline
-above now (At d) = pick (ltb now d) (At d) NoDeadline
+abbrev pub above : ℕ → Option ℕ → Option ℕ
+above now None = None
+above now (Some d) = pick (ltb now d) (Some d) None
 
-abbrev pub sooner : Deadline → Deadline → Deadline
-sooner NoDeadline e = e
-sooner (At d) NoDeadline = At d
-sooner (At d) (At e) = pick (leb d e) (At d) (At e)
+abbrev pub sooner : Option ℕ → Option ℕ → Option ℕ
+sooner None e = e
+sooner (Some d) None = Some d
+sooner (Some d) (Some e) = pick (leb d e) (Some d) (Some e)
 
 -- the earliest time so far, and one more service's "deadline or not-before .. above the clock"
-abbrev pub sooner_of : ℕ → Deadline → Record → Deadline
-sooner_of now d r = sooner (sooner d (above now r.deadline)) (above now (At r.not_before))
+abbrev pub sooner_of : ℕ → Option ℕ → Record → Option ℕ
+sooner_of now d r = sooner (sooner d (above now r.deadline)) (above now (Some r.not_before))
 
 -- "the earliest deadline or not-before of any service above the clock, or that there is none"
-unfoldable pub earliest : Table → State → Deadline
-earliest t x = fold (λ d s. sooner_of x.clock d (record_at x s)) NoDeadline t.count
+unfoldable pub earliest : Table → State → Option ℕ
+earliest t x = fold (λ d s. sooner_of x.clock d (record_at x s)) None t.count

@@ -4,7 +4,7 @@ use Rattle.base.specs.Folds.{pick}
 use Rattle.service.specs.declared.Phase.TheVariants.{Down}
 use Rattle.service.specs.declared.Cause.{Cause}
 use Rattle.service.specs.declared.Cause.TheVariants.{None as NoCause, User, Released, Fell, Failed}
-use Rattle.service.specs.declared.Deadline.TheVariants.{None as NoDeadline}
+use Rattle.std.specs.Prelude.{None}
 use Rattle.service.specs.declared.Settings.{Settings}
 use Rattle.service.specs.declared.Record.{Record}
 use Rattle.service.specs.Records.{moved, with_aside, with_count, with_killed, with_not_before, with_wanted, with_window}
@@ -62,7 +62,7 @@ settled_count Failed v now r = r.restarts
 -- "down, no cause, deadline none, killed off", and the rest by the cause c
 abbrev pub settled_as : Cause → Settings → ℕ → Record → Record
 settled_as c v now r =
-    moved Down NoCause NoDeadline
+    moved Down NoCause None
     (with_killed false (with_wanted (settled_wanted c v now r) (with_aside (settled_aside c v now r)
     (with_not_before (settled_not_before c v now r) (with_window (settled_window c v now r) (with_count (settled_count c v now r) r))))))
 

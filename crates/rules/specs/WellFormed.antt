@@ -7,8 +7,7 @@ use Rattle.service.specs.declared.Form.{Form}
 use Rattle.service.specs.declared.Phase.{Phase}
 use Rattle.service.specs.declared.Phase.TheVariants.{Down, Waiting, Starting, Up, Ending}
 use Rattle.service.specs.declared.Cause.{Cause}
-use Rattle.service.specs.declared.Deadline.{Deadline}
-use Rattle.service.specs.declared.Deadline.TheVariants.{None as NoDeadline, At}
+use Rattle.std.specs.Prelude.{Option, Some, None}
 use Rattle.service.specs.declared.Settings.{Settings}
 use Rattle.service.specs.declared.Record.{Record}
 use Rattle.service.specs.declared.State.{State}
@@ -35,9 +34,9 @@ table_formed t =
     && every (λ s. links_inside t.count (settings_at t s) && settings_in_range (settings_at t s)) t.count
     && not (cyclic (all_links t) t.count)
 
-abbrev pub deadline_in_range : Deadline → Bool
-deadline_in_range NoDeadline = true
-deadline_in_range (At d) = leb d last_time
+abbrev pub deadline_in_range : Option ℕ → Bool
+deadline_in_range None = true
+deadline_in_range (Some d) = leb d last_time
 
 -- "a last launch or window start past the clock, a pending time past .., a count past 65,535"
 abbrev pub times_in_range : ℕ → Record → Bool

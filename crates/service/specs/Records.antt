@@ -4,8 +4,7 @@ use Rattle.service.specs.declared.Phase.{Phase}
 use Rattle.service.specs.declared.Phase.TheVariants.{Down, Waiting, Starting, Up, Ending}
 use Rattle.service.specs.declared.Cause.{Cause}
 use Rattle.service.specs.declared.Cause.TheVariants.{None as NoCause, User, Released, Fell, Failed}
-use Rattle.service.specs.declared.Deadline.{Deadline}
-use Rattle.service.specs.declared.Deadline.TheVariants.{None as NoDeadline}
+use Rattle.std.specs.Prelude.{Option, None}
 use Rattle.service.specs.declared.Record.{Record}
 use Rattle.service.specs.declared.State.{State}
 use Rattle.service.specs.Limits.{max_services}
@@ -76,7 +75,7 @@ fresh_record = record {
   aside = false;
   live = false;
   cause = NoCause;
-  deadline = NoDeadline;
+  deadline = None;
   killed = false;
   not_before = 0;
   last_launch = 0;
@@ -87,7 +86,7 @@ fresh_record = record {
 -- ---- a record changed: the one place that names every field. What is not given is kept
 
 -- the record r with another phase, cause and deadline, four flags and four numbers
-abbrev pub remade : Phase → Cause → Deadline → Bool → Bool → Bool → Bool → ℕ → ℕ → ℕ → ℕ → Record → Record
+abbrev pub remade : Phase → Cause → Option ℕ → Bool → Bool → Bool → Bool → ℕ → ℕ → ℕ → ℕ → Record → Record
 remade p c d wanted aside live killed notBefore launch window count r = record {
   phase = p;
   wanted = wanted;
@@ -103,7 +102,7 @@ remade p c d wanted aside live killed notBefore launch window count r = record {
 }
 
 -- the record r with another phase, cause and deadline
-abbrev pub moved : Phase → Cause → Deadline → Record → Record
+abbrev pub moved : Phase → Cause → Option ℕ → Record → Record
 moved p c d r =
     remade p c d r.wanted r.aside r.live r.killed
     r.not_before r.last_launch r.window_start r.restarts r

@@ -4,13 +4,10 @@
 mod numbers;
 
 ghost use Rattle.std.specs.Prelude.{◌≡◌};
-ghost use Rattle.service.specs.Settings.{default_settings, form_of, no_services, strong_of, links_of};
-ghost use Rattle.service.specs.Records.{fresh_record, fresh_state, moved, with_phase, with_cause};
+ghost use Rattle.service.specs.Settings.{default_settings, form_of, is_passing, starts_first, lives_up, no_services, strong_of, links_of};
+ghost use Rattle.service.specs.Records.{active, fresh_record, fresh_state};
 
-pub use numbers::{
-    LAST_SIGNAL, action_number, action_service, cause_at, cause_number, is_quiet, kind_at,
-    kind_number, phase_at, phase_number, refusal_number, signal_at, signal_number,
-};
+pub use numbers::LAST_SIGNAL;
 
 // The most services that a set may have.
 pub const MAX_SERVICES: usize = 32;
@@ -31,7 +28,7 @@ pub const LAST_CLOCK: u64 = 281474976710656;
 pub const LAST_TIME: u64 = LAST_CLOCK + LONGEST_TIME;
 
 // Paper 01's types.
-#[derive(Clone, Copy)]
+#[derive(Clone, Copy, PartialEq, Eq)]
 pub enum Kind {
     Process,
     Scripted,
@@ -40,7 +37,7 @@ pub enum Kind {
 
 // How a service is launched, and whether it has a live process while it is up. The order is the one in which list 24 and the choice of a
 // rule take the fewest instructions.
-#[derive(Clone, Copy)]
+#[derive(Clone, Copy, PartialEq, Eq)]
 pub enum Form {
     // launched into starting, not live while up
     Passing,
@@ -53,7 +50,7 @@ pub enum Form {
 }
 
 // What term-signal names, in paper 01's order; none sends nothing.
-#[derive(Clone, Copy)]
+#[derive(Clone, Copy, PartialEq, Eq)]
 pub enum Signal {
     None,
     Hup,
@@ -100,7 +97,7 @@ pub struct Table {
     pub services: [Settings; MAX_SERVICES],
 }
 
-#[derive(Clone, Copy)]
+#[derive(Clone, Copy, PartialEq, Eq)]
 pub enum Phase {
     Down,
     Waiting,
@@ -110,20 +107,13 @@ pub enum Phase {
 }
 
 // Why a service is to end.
-#[derive(Clone, Copy)]
+#[derive(Clone, Copy, PartialEq, Eq)]
 pub enum Cause {
     None,
     User,
     Released,
     Fell,
     Failed,
-}
-
-// None is no deadline, and not the time 0.
-#[derive(Clone, Copy)]
-pub enum Deadline {
-    None,
-    At(u64),
 }
 
 // One service's place in the state. The fields stand by size, the deadline last: so a record takes 56 bytes, and the loops over records
@@ -140,7 +130,8 @@ pub struct Record {
     pub last_launch: u64,
     pub window_start: u64,
     pub restarts: u64,
-    pub deadline: Deadline,
+    // None is no deadline, and not the time 0.
+    pub deadline: Option<u64>,
 }
 
 #[derive(Clone, Copy)]
@@ -150,7 +141,7 @@ pub struct State {
 }
 
 // What the host is handed. Moved is a change of the state alone: the host has nothing to do.
-#[derive(Clone, Copy)]
+#[derive(Clone, Copy, PartialEq, Eq)]
 pub enum Action {
     Quiet,
     Moved(usize),
@@ -160,7 +151,7 @@ pub enum Action {
 }
 
 // Why a call of the engine is refused: 24, 20, 21, 22, 23 and 25 of paper 01.
-#[derive(Clone, Copy)]
+#[derive(Clone, Copy, PartialEq, Eq)]
 pub enum Refusal {
     IllFormed,
     NoService,
@@ -170,50 +161,10 @@ pub enum Refusal {
     NoRoom,
 }
 
-// The answer to an event.
+// What a call that may change the state gives back: its answer, and the state. A refused call gives back the state that it got.
 #[derive(Clone, Copy)]
-pub enum EventAnswer {
-    Done,
-    Refused(Refusal),
-}
-
-// The answer to a request for the next action.
-#[derive(Clone, Copy)]
-pub enum ActionAnswer {
-    Act(Action),
-    Refused(Refusal),
-}
-
-// The answer to a run to quiet: how many actions were handed out.
-#[derive(Clone, Copy)]
-pub enum RunAnswer {
-    Ran(usize),
-    Refused(Refusal),
-}
-
-// The answer to a query: the earliest time at which a service may have something to do, if any.
-#[derive(Clone, Copy)]
-pub enum QueryAnswer {
-    Earliest(Deadline),
-    Refused(Refusal),
-}
-
-// What each kind of call gives back: its answer next to the state, since an enum holds no array.
-#[derive(Clone, Copy)]
-pub struct Changed {
-    pub answer: EventAnswer,
-    pub state: State,
-}
-
-#[derive(Clone, Copy)]
-pub struct Stepped {
-    pub answer: ActionAnswer,
-    pub state: State,
-}
-
-#[derive(Clone, Copy)]
-pub struct Ran {
-    pub answer: RunAnswer,
+pub struct Answered<A> {
+    pub answer: Result<A, Refusal>,
     pub state: State,
 }
 
@@ -247,32 +198,63 @@ impl Settings {
             soft: 0,
         }
     }
-}
 
-// The form that a type gives a service. No type gives the delayed one yet; the rules have it all the same.
-pub fn form_of(v: Settings) -> Form
-    ensures { result ≡ form_of v }
-{
-    let k = v.kind;
-    match k {
-        Kind::Process => Form::Direct,
-        Kind::Scripted => Form::Passing,
-        Kind::Internal => Form::Bare,
+    // The form that the type gives the service. No type gives the delayed one yet; the rules have it all the same.
+    pub fn form(self) -> Form
+        ensures { result ≡ form_of self }
+    {
+        match self.kind {
+            Kind::Process => Form::Direct,
+            Kind::Scripted => Form::Passing,
+            Kind::Internal => Form::Bare,
+        }
+    }
+
+    // The services that it depends on by depends-on or depends-ms.
+    pub fn strong_links(self) -> u64
+        ensures { result ≡ strong_of self }
+    {
+        self.hard | self.milestone
+    }
+
+    // The services that it depends on by any kind.
+    pub fn all_links(self) -> u64
+        ensures { result ≡ links_of self }
+    {
+        self.hard | self.milestone | self.soft
     }
 }
 
-// The services that one depends on by depends-on or depends-ms.
-pub fn strong_links(v: Settings) -> u64
-    ensures { result ≡ strong_of v }
-{
-    v.hard | v.milestone
+impl Form {
+    // Launched into starting, with no process once it is up.
+    pub fn is_passing(self) -> bool
+        ensures { result ≡ is_passing self }
+    {
+        self == Form::Passing
+    }
+
+    // Its launch leads to starting.
+    pub fn starts_first(self) -> bool
+        ensures { result ≡ starts_first self }
+    {
+        matches!(self, Form::Passing | Form::Delayed)
+    }
+
+    // It has a live process while it is up.
+    pub fn lives_up(self) -> bool
+        ensures { result ≡ lives_up self }
+    {
+        matches!(self, Form::Direct | Form::Delayed)
+    }
 }
 
-// The services that one depends on by any kind.
-pub fn all_links(v: Settings) -> u64
-    ensures { result ≡ links_of v }
-{
-    v.hard | v.milestone | v.soft
+impl Phase {
+    // Starting, up or ending.
+    pub fn is_active(self) -> bool
+        ensures { result ≡ active self }
+    {
+        matches!(self, Phase::Starting | Phase::Up | Phase::Ending)
+    }
 }
 
 impl Table {
@@ -298,7 +280,7 @@ impl Record {
             aside: false,
             live: false,
             cause: Cause::None,
-            deadline: Deadline::None,
+            deadline: None,
             killed: false,
             not_before: 0,
             last_launch: 0,
@@ -306,42 +288,6 @@ impl Record {
             restarts: 0,
         }
     }
-}
-
-// The record with another phase, cause and deadline. A change of a record is made by this function and by storing to its other fields, so
-// that all its fields are named in few places.
-pub fn moved(p: Phase, c: Cause, d: Deadline, r: Record) -> Record
-    ensures { result ≡ moved p c d r }
-{
-    Record {
-        phase: p,
-        cause: c,
-        wanted: r.wanted,
-        aside: r.aside,
-        live: r.live,
-        killed: r.killed,
-        not_before: r.not_before,
-        last_launch: r.last_launch,
-        window_start: r.window_start,
-        restarts: r.restarts,
-        deadline: d,
-    }
-}
-
-pub fn with_phase(p: Phase, r: Record) -> Record
-    ensures { result ≡ with_phase p r }
-{
-    let c = r.cause;
-    let d = r.deadline;
-    moved(p, c, d, r)
-}
-
-pub fn with_cause(c: Cause, r: Record) -> Record
-    ensures { result ≡ with_cause c r }
-{
-    let p = r.phase;
-    let d = r.deadline;
-    moved(p, c, d, r)
 }
 
 impl State {
