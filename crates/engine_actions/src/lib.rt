@@ -4,9 +4,8 @@
 ghost use Rattle.std.specs.Prelude.{◌≡◌};
 ghost use Rattle.rules.specs.Rules.{begun_action, term_action, end_action, expired_action, handed_by};
 
-use engine_record_tests::is_starting;
 use rules::Rule;
-use service::{Action, Form, Phase, Record, Settings, Signal, form_of};
+use service::{Action, Form, Phase, Record, Settings, Signal};
 
 // Rule 6.
 fn begun_action(f: Form, s: usize) -> Action
@@ -14,9 +13,7 @@ fn begun_action(f: Form, s: usize) -> Action
 {
     match f {
         Form::Bare => Action::Moved(s),
-        Form::Passing => Action::Launch(s),
-        Form::Direct => Action::Launch(s),
-        Form::Delayed => Action::Launch(s),
+        Form::Passing | Form::Direct | Form::Delayed => Action::Launch(s),
     }
 }
 
@@ -26,13 +23,7 @@ fn term_action(g: Signal, s: usize) -> Action
 {
     match g {
         Signal::None => Action::Moved(s),
-        Signal::Hup => Action::Signal(s, Signal::Hup),
-        Signal::Int => Action::Signal(s, Signal::Int),
-        Signal::Term => Action::Signal(s, Signal::Term),
-        Signal::Quit => Action::Signal(s, Signal::Quit),
-        Signal::Usr1 => Action::Signal(s, Signal::Usr1),
-        Signal::Usr2 => Action::Signal(s, Signal::Usr2),
-        Signal::Kill => Action::Signal(s, Signal::Kill),
+        _ => Action::Signal(s, g),
     }
 }
 
@@ -43,8 +34,7 @@ fn end_action(f: Form, g: Signal, s: usize) -> Action
     match f {
         Form::Bare => Action::Moved(s),
         Form::Passing => Action::StopCommand(s),
-        Form::Direct => term_action(g, s),
-        Form::Delayed => term_action(g, s),
+        Form::Direct | Form::Delayed => term_action(g, s),
     }
 }
 
@@ -52,7 +42,7 @@ fn end_action(f: Form, g: Signal, s: usize) -> Action
 fn expired_action(p: Phase, s: usize) -> Action
     ensures { result ≡ expired_action p s }
 {
-    if is_starting(p) {
+    if p == Phase::Starting {
         return Action::Signal(s, Signal::Int);
     }
     Action::Signal(s, Signal::Kill)
@@ -62,17 +52,10 @@ fn expired_action(p: Phase, s: usize) -> Action
 pub fn hand_out(k: Rule, v: Settings, r: Record, s: usize) -> Action
     ensures { result ≡ handed_by k v r s }
 {
-    let f = form_of(v);
-    let g = v.signal;
-    let p = r.phase;
     match k {
-        Rule::Lose => Action::Moved(s),
-        Rule::Abandon => Action::Moved(s),
-        Rule::Settle => Action::Moved(s),
-        Rule::Wake => Action::Moved(s),
-        Rule::Release => Action::Moved(s),
-        Rule::Begin => begun_action(f, s),
-        Rule::End => end_action(f, g, s),
-        Rule::Expire => expired_action(p, s),
+        Rule::Lose | Rule::Abandon | Rule::Settle | Rule::Wake | Rule::Release => Action::Moved(s),
+        Rule::Begin => begun_action(v.form(), s),
+        Rule::End => end_action(v.form(), v.signal, s),
+        Rule::Expire => expired_action(r.phase, s),
     }
 }

@@ -5,11 +5,8 @@ ghost use Rattle.engine_choice.specs.Standing.{nowhere, noted_in};
 ghost use Rattle.engine_choice.specs.Fitting.{lose_by, abandon_by, settle_by, wake_by, release_by, begin_by, end_by, expire_by, which_by};
 
 use base::{has_bit, kept_if, overlaps, single_of};
-use engine_record_tests::{
-    is_active, is_barred, is_closing, is_down, is_ending, is_none, is_running, is_serving,
-    is_starting, is_up, is_user, is_waiting,
-};
-use service::{Deadline, Form, Record, Settings, all_links, form_of, strong_links};
+use engine_record_tests::{is_barred, is_closing, is_running, is_serving};
+use service::{Cause, Form, Phase, Record, Settings};
 
 #[derive(Clone, Copy)]
 pub struct Standing {
@@ -62,19 +59,18 @@ impl Standing {
 pub fn noted(st: Standing, v: Settings, r: Record, i: usize) -> Standing
     ensures { result ≡ noted_in st v r i }
 {
-    let all = all_links(v);
+    let all = v.all_links();
     let p = r.phase;
-    let c = r.cause;
     let serving = is_serving(r);
     let barred = is_barred(r);
     Standing {
         lost: st.lost | single_of(i, !serving),
-        user: st.user | single_of(i, !serving & is_user(c)),
+        user: st.user | single_of(i, !serving & (r.cause == Cause::User)),
         barred: st.barred | single_of(i, barred),
         unready: st.unready | single_of(i, !(serving | barred)),
-        blocked: st.blocked | kept_if(is_active(p), v.hard),
-        needed: st.needed | kept_if(!is_down(p), all),
-        called: st.called | kept_if(is_waiting(p), all),
+        blocked: st.blocked | kept_if(p.is_active(), v.hard),
+        needed: st.needed | kept_if(p != Phase::Down, all),
+        called: st.called | kept_if(p == Phase::Waiting, all),
     }
 }
 
@@ -84,19 +80,15 @@ fn nothing_to_end(f: Form, command: bool, live: bool) -> bool
     match f {
         Form::Bare => true,
         Form::Passing => !command,
-        Form::Direct => !live,
-        Form::Delayed => !live,
+        Form::Direct | Form::Delayed => !live,
     }
 }
 
 // The clock is at or past the deadline.
-fn is_due(now: u64, d: Deadline) -> bool
+fn is_due(now: u64, d: Option<u64>) -> bool
     ensures { result ≡ due now d }
 {
-    match d {
-        Deadline::None => false,
-        Deadline::At(e) => e <= now,
-    }
+    d.is_some_and(|e| e <= now)
 }
 
 // Rule 1.
@@ -110,43 +102,39 @@ fn fits_lose(v: Settings, r: Record, st: Standing) -> bool
 fn fits_abandon(v: Settings, r: Record, st: Standing) -> bool
     ensures { result ≡ abandon_by v r st }
 {
-    let p = r.phase;
-    is_waiting(p) & overlaps(strong_links(v), st.barred)
+    (r.phase == Phase::Waiting) & overlaps(v.strong_links(), st.barred)
 }
 
 // Rule 3.
 fn fits_settle(v: Settings, r: Record, st: Standing, s: usize) -> bool
     ensures { result ≡ settle_by v r st s }
 {
-    let f = form_of(v);
-    is_closing(r) & !has_bit(st.blocked, s) & nothing_to_end(f, v.has_stop, r.live)
+    is_closing(r) & !has_bit(st.blocked, s) & nothing_to_end(v.form(), v.has_stop, r.live)
 }
 
 // Rule 4.
 fn fits_wake(r: Record, st: Standing, s: usize) -> bool
     ensures { result ≡ wake_by r st s }
 {
-    let p = r.phase;
-    is_down(p) & !r.aside & (r.wanted | has_bit(st.called, s))
+    (r.phase == Phase::Down) & !r.aside & (r.wanted | has_bit(st.called, s))
 }
 
 // Rule 5.
 fn fits_release(r: Record, st: Standing, s: usize) -> bool
     ensures { result ≡ release_by r st s }
 {
-    let p = r.phase;
-    let c = r.cause;
-    (is_waiting(p) | is_starting(p) | is_up(p)) & is_none(c) & !(r.wanted | has_bit(st.needed, s))
+    matches!(r.phase, Phase::Waiting | Phase::Starting | Phase::Up)
+        & (r.cause == Cause::None)
+        & !(r.wanted | has_bit(st.needed, s))
 }
 
 // Rule 6.
 fn fits_begin(now: u64, v: Settings, r: Record, st: Standing) -> bool
     ensures { result ≡ begin_by now v r st }
 {
-    let p = r.phase;
-    is_waiting(p)
+    (r.phase == Phase::Waiting)
         & (r.not_before <= now)
-        & !overlaps(strong_links(v), st.lost)
+        & !overlaps(v.strong_links(), st.lost)
         & !overlaps(v.soft, st.unready)
 }
 
@@ -162,8 +150,7 @@ fn fits_expire(now: u64, r: Record) -> bool
     ensures { result ≡ expire_by now r }
 {
     let p = r.phase;
-    let d = r.deadline;
-    is_due(now, d) & (is_starting(p) | (is_ending(p) & !r.killed))
+    is_due(now, r.deadline) & ((p == Phase::Starting) | ((p == Phase::Ending) & !r.killed))
 }
 
 // Which of the rules fit the service s.

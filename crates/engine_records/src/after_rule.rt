@@ -8,21 +8,18 @@ ghost use Rattle.rules.specs.Rules.{deadline_in, abandoned, released, begun, end
 ghost use Rattle.engine_records.specs.Sound.{sound, Sound};
 
 use crate::settling::{is_sound, settle};
-use engine_record_tests::{is_starting, is_user, is_waiting};
 use rules::Rule;
-use service::{
-    Cause, Deadline, Form, Phase, Record, Settings, form_of, moved, with_cause, with_phase,
-};
+use service::{Cause, Form, Phase, Record, Settings};
 
 // The deadline at the end of a timeout; none where that is 0.
-fn deadline_in(now: u64, timeout: u64) -> Deadline
+fn deadline_in(now: u64, timeout: u64) -> Option<u64>
     requires { (now ≤ last_clock) × (timeout ≤ longest_time) }
     ensures { result ≡ deadline_in now timeout }
 {
     if timeout == 0 {
-        return Deadline::None;
+        return None;
     }
-    Deadline::At(now + timeout)
+    Some(now + timeout)
 }
 
 fn user_or_fell(user: bool) -> Cause
@@ -34,7 +31,7 @@ fn user_or_fell(user: bool) -> Cause
 fn user_or_failed(c: Cause) -> Cause
     ensures { result ≡ pick (is_user c) User Failed }
 {
-    if is_user(c) {
+    if c == Cause::User {
         Cause::User
     } else {
         Cause::Failed
@@ -45,32 +42,41 @@ fn user_or_failed(c: Cause) -> Cause
 fn abandon(r: Record) -> Record
     ensures { result ≡ abandoned r }
 {
-    let mut q = with_phase(Phase::Down, r);
-    q.wanted = false;
-    q.aside = true;
-    q
+    Record {
+        phase: Phase::Down,
+        wanted: false,
+        aside: true,
+        ..r
+    }
 }
 
 // Rule 5: waiting goes down; else cause released.
 fn release(r: Record) -> Record
     ensures { result ≡ released r }
 {
-    let p = r.phase;
-    if is_waiting(p) {
-        return with_phase(Phase::Down, r);
+    if r.phase == Phase::Waiting {
+        return Record {
+            phase: Phase::Down,
+            ..r
+        };
     }
-    with_cause(Cause::Released, r)
+    Record {
+        cause: Cause::Released,
+        ..r
+    }
 }
 
 // Rule 6 for any form: the phase, the live flag and the deadline as given, launched now.
-fn launched(p: Phase, live: bool, d: Deadline, now: u64, r: Record) -> Record
+fn launched(p: Phase, live: bool, d: Option<u64>, now: u64, r: Record) -> Record
     ensures { result ≡ moved p r.cause d (with_live live (with_launch now r)) }
 {
-    let c = r.cause;
-    let mut q = moved(p, c, d, r);
-    q.live = live;
-    q.last_launch = now;
-    q
+    Record {
+        phase: p,
+        live,
+        deadline: d,
+        last_launch: now,
+        ..r
+    }
 }
 
 // Rule 6.
@@ -78,14 +84,12 @@ fn begin(v: Settings, now: u64, r: Record) -> Record
     requires { Sound v now r }
     ensures { result ≡ begun v now r }
 {
-    let f = form_of(v);
     let old = r.deadline;
     let new = deadline_in(now, v.start_timeout);
-    match f {
+    match v.form() {
         Form::Bare => launched(Phase::Up, r.live, old, now, r),
-        Form::Passing => launched(Phase::Starting, true, new, now, r),
         Form::Direct => launched(Phase::Up, true, old, now, r),
-        Form::Delayed => launched(Phase::Starting, true, new, now, r),
+        Form::Passing | Form::Delayed => launched(Phase::Starting, true, new, now, r),
     }
 }
 
@@ -94,11 +98,12 @@ fn end(v: Settings, now: u64, r: Record) -> Record
     requires { Sound v now r }
     ensures { result ≡ ending v now r }
 {
-    let c = r.cause;
-    let d = deadline_in(now, v.stop_timeout);
-    let mut q = moved(Phase::Ending, c, d, r);
-    q.live = true;
-    q
+    Record {
+        phase: Phase::Ending,
+        live: true,
+        deadline: deadline_in(now, v.stop_timeout),
+        ..r
+    }
 }
 
 // Rule 8 where the service was starting.
@@ -106,27 +111,30 @@ fn time_out(v: Settings, now: u64, r: Record) -> Record
     requires { Sound v now r }
     ensures { result ≡ expired true v now r }
 {
-    let c = r.cause;
-    let e = user_or_failed(c);
-    let d = deadline_in(now, v.stop_timeout);
-    moved(Phase::Ending, e, d, r)
+    Record {
+        phase: Phase::Ending,
+        cause: user_or_failed(r.cause),
+        deadline: deadline_in(now, v.stop_timeout),
+        ..r
+    }
 }
 
 // Rule 8 where it was ending.
 fn kill(v: Settings, now: u64, r: Record) -> Record
     ensures { result ≡ expired false v now r }
 {
-    let mut q = with_phase(Phase::Ending, r);
-    q.killed = true;
-    q
+    Record {
+        phase: Phase::Ending,
+        killed: true,
+        ..r
+    }
 }
 
 fn expire(v: Settings, now: u64, r: Record) -> Record
     requires { Sound v now r }
     ensures { result ≡ expired (is_starting r.phase) v now r }
 {
-    let p = r.phase;
-    if is_starting(p) {
+    if r.phase == Phase::Starting {
         return time_out(v, now, r);
     }
     kill(v, now, r)
@@ -135,8 +143,10 @@ fn expire(v: Settings, now: u64, r: Record) -> Record
 fn lose(user: bool, r: Record) -> Record
     ensures { result ≡ with_cause (pick user User Fell) r }
 {
-    let c = user_or_fell(user);
-    with_cause(c, r)
+    Record {
+        cause: user_or_fell(user),
+        ..r
+    }
 }
 
 fn leave_sound(k: Rule, user: bool, v: Settings, now: u64, r: Record) -> Record
@@ -147,7 +157,10 @@ fn leave_sound(k: Rule, user: bool, v: Settings, now: u64, r: Record) -> Record
         Rule::Lose => lose(user, r),
         Rule::Abandon => abandon(r),
         Rule::Settle => settle(v, now, r),
-        Rule::Wake => with_phase(Phase::Waiting, r),
+        Rule::Wake => Record {
+            phase: Phase::Waiting,
+            ..r
+        },
         Rule::Release => release(r),
         Rule::Begin => begin(v, now, r),
         Rule::End => end(v, now, r),

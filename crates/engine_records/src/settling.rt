@@ -9,7 +9,7 @@ ghost use Rattle.engine_records.specs.Sound.{sound, Sound};
 ghost use Rattle.engine_records.specs.Rest.{at_rest, fall_counted};
 
 use engine_wellformed::{settings_in_range, times_in_range};
-use service::{Cause, Deadline, LAST_CLOCK, Phase, Record, Settings, moved};
+use service::{Cause, LAST_CLOCK, Phase, Record, Settings};
 
 // The times of the record and the settings are in range, and so is the clock.
 pub(crate) fn is_sound(v: Settings, now: u64, r: Record) -> bool
@@ -19,26 +19,16 @@ pub(crate) fn is_sound(v: Settings, now: u64, r: Record) -> bool
 }
 
 // a where the test holds, and else b.
-fn either_number(test: bool, a: u64, b: u64) -> u64
+pub(crate) fn either<T: Copy>(test: bool, a: T, b: T) -> T
     ensures { result ≡ pick test a b }
 {
     if test { a } else { b }
 }
 
-// The time from a moment to the clock, none where the moment is still to come.
-fn time_since(now: u64, moment: u64) -> u64
-    ensures { result ≡ now - moment }
-{
-    if now < moment {
-        return 0;
-    }
-    now - moment
-}
-
 fn is_window_over(v: Settings, now: u64, r: Record) -> bool
     ensures { result ≡ window_over v now r }
 {
-    v.interval <= time_since(now, r.window_start)
+    v.interval <= now.saturating_sub(r.window_start)
 }
 
 // The count in the window: none where the window is over.
@@ -72,11 +62,12 @@ fn count_sound(v: Settings, now: u64, r: Record) -> Record
     let over = is_window_over(v, now, r);
     let count = window_count(over, r.restarts);
     let reached = limit_reached(v, now, r);
-    let mut q = r;
-    q.not_before = either_number(reached, r.not_before, r.last_launch + v.delay);
-    q.window_start = either_number(over, now, r.window_start);
-    q.restarts = next_count(reached | (v.limit == 0), count);
-    q
+    Record {
+        not_before: either(reached, r.not_before, r.last_launch + v.delay),
+        window_start: either(over, now, r.window_start),
+        restarts: next_count(reached | (v.limit == 0), count),
+        ..r
+    }
 }
 
 // The record with a fall counted: its window, the count in it and the time before which it is not launched again. A record whose times
@@ -94,11 +85,15 @@ fn count_fall(v: Settings, now: u64, r: Record) -> Record
 pub(crate) fn at_rest(wanted: bool, aside: bool, r: Record) -> Record
     ensures { result ≡ at_rest wanted aside r }
 {
-    let mut q = moved(Phase::Down, Cause::None, Deadline::None, r);
-    q.wanted = wanted;
-    q.aside = aside;
-    q.killed = false;
-    q
+    Record {
+        phase: Phase::Down,
+        cause: Cause::None,
+        deadline: None,
+        wanted,
+        aside,
+        killed: false,
+        ..r
+    }
 }
 
 // A fall, counted in the restart window.
@@ -115,13 +110,11 @@ fn settle_sound(v: Settings, now: u64, r: Record) -> Record
     requires { sound v now r ≡ true }
     ensures { result ≡ settled v now r }
 {
-    let c = r.cause;
-    match c {
-        Cause::None => at_rest(r.wanted, r.aside, r),
+    match r.cause {
+        Cause::None | Cause::Released => at_rest(r.wanted, r.aside, r),
         Cause::User => at_rest(false, true, r),
-        Cause::Released => at_rest(r.wanted, r.aside, r),
-        Cause::Fell => settle_fall(v, now, r),
         Cause::Failed => at_rest(false, true, r),
+        Cause::Fell => settle_fall(v, now, r),
     }
 }
 

@@ -11,11 +11,10 @@ ghost use Rattle.rules.specs.WellFormed.{links_inside, settings_in_range, deadli
 ghost use Rattle.engine_wellformed.specs.Place.{place_formed};
 
 use base::is_within;
-use engine_record_tests::{is_none, lives_up, starts_first};
 use links::{has_cycle, reach_of};
 use service::{
-    Cause, Deadline, Form, LAST_CLOCK, LAST_TIME, LONGEST_TIME, MAX_COUNT, MAX_SERVICES, Phase,
-    Record, Settings, State, Table, all_links, form_of,
+    Cause, Form, LAST_CLOCK, LAST_TIME, LONGEST_TIME, MAX_COUNT, MAX_SERVICES, Phase, Record,
+    Settings, State, Table,
 };
 
 // No dependency lies beyond the n services.
@@ -36,23 +35,19 @@ pub fn settings_in_range(v: Settings) -> bool
         & (v.limit <= MAX_COUNT)
 }
 
-fn deadline_in_range(d: Deadline) -> bool
+fn deadline_in_range(d: Option<u64>) -> bool
     ensures { result ≡ deadline_in_range d }
 {
-    match d {
-        Deadline::None => true,
-        Deadline::At(e) => e <= LAST_TIME,
-    }
+    d.is_none_or(|e| e <= LAST_TIME)
 }
 
 // No time of a record is past its bound, nor its count.
 pub fn times_in_range(now: u64, r: Record) -> bool
     ensures { result ≡ times_in_range now r }
 {
-    let d = r.deadline;
     (r.last_launch <= now)
         & (r.window_start <= now)
-        & deadline_in_range(d)
+        & deadline_in_range(r.deadline)
         & (r.not_before <= LAST_TIME)
         & (r.restarts <= MAX_COUNT)
 }
@@ -60,19 +55,19 @@ pub fn times_in_range(now: u64, r: Record) -> bool
 fn implied(a: bool, b: bool) -> bool
     ensures { result ≡ implies a b }
 {
-    if a { b } else { true }
+    !a | b
 }
 
 // The record is one of those that list 24 lets pass.
 fn is_shaped(f: Form, p: Phase, live: bool, c: Cause) -> bool
     ensures { result ≡ shaped f p live c }
 {
+    let free = c == Cause::None;
     match p {
-        Phase::Down => !live & is_none(c),
-        Phase::Waiting => !live & is_none(c),
-        Phase::Starting => starts_first(f) & live,
-        Phase::Up => implied(live, lives_up(f)) & implied(is_none(c) & lives_up(f), live),
-        Phase::Ending => live & !is_none(c),
+        Phase::Down | Phase::Waiting => !live & free,
+        Phase::Starting => f.starts_first() & live,
+        Phase::Up => implied(live, f.lives_up()) & implied(free & f.lives_up(), live),
+        Phase::Ending => live & !free,
     }
 }
 
@@ -80,12 +75,9 @@ fn is_shaped(f: Form, p: Phase, live: bool, c: Cause) -> bool
 fn place_formed(n: usize, now: u64, v: Settings, r: Record) -> bool
     ensures { result ≡ place_formed n now v r }
 {
-    let f = form_of(v);
-    let p = r.phase;
-    let c = r.cause;
     links_inside(n, v)
         & settings_in_range(v)
-        & (times_in_range(now, r) & is_shaped(f, p, r.live, c))
+        & (times_in_range(now, r) & is_shaped(v.form(), r.phase, r.live, r.cause))
 }
 
 // Each service's dependencies of any kind.
@@ -94,11 +86,8 @@ fn link_rows(t: Table) -> [u64; MAX_SERVICES]
     ensures { Filled 0 (all_links t) max_services result t.count }
 {
     let mut rows = [0u64; MAX_SERVICES];
-    let mut i: usize = 0;
-    while i < t.count {
-        let v = t.services[i];
-        rows[i] = all_links(v);
-        i += 1;
+    for i in 0..t.count {
+        rows[i] = t.services[i].all_links();
     }
     rows
 }
@@ -113,19 +102,12 @@ pub fn is_formed(t: Table, x: State) -> bool
         return false;
     }
     let mut rows = [0u64; MAX_SERVICES];
-    let mut i: usize = 0;
-    while i < t.count {
-        let v = t.services[i];
-        rows[i] = all_links(v);
-        i += 1;
+    for i in 0..t.count {
+        rows[i] = t.services[i].all_links();
     }
     let mut ok = true;
-    let mut s: usize = 0;
-    while s < t.count {
-        let v = t.services[s];
-        let r = x.records[s];
-        ok = ok & place_formed(t.count, x.clock, v, r);
-        s += 1;
+    for s in 0..t.count {
+        ok &= place_formed(t.count, x.clock, t.services[s], x.records[s]);
     }
     let cycle = has_cycle(t.count, &rows);
     (x.clock <= LAST_CLOCK) & ok & !cycle

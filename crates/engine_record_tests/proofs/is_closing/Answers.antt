@@ -1,5 +1,0 @@
--- `is_closing` meets its contract: by the tests that it calls.
-use Rattle.engine_record_tests.proofs.is_closing.Goals as goal
-
-pub returns : goal.returns
-returns c = cc

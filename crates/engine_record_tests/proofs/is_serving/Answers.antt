@@ -1,5 +1,0 @@
--- `is_serving` meets its contract: by the tests that it calls.
-use Rattle.engine_record_tests.proofs.is_serving.Goals as goal
-
-pub returns : goal.returns
-returns c = cc
