@@ -1,10 +1,10 @@
 -- `is_formed` meets its contract: list 24, from each service and the rows.
 use borrow.Author.Rules.{rules}
-use mathlib.Core.Path.{◌≡◌, refl}
+use mathlib.Core.Path.{◌≡◌}
 use lib.ListN.{length}
 use Rattle.base.proofs.Lists.{length_mapped}
-use Rattle.base.proofs.Filled.{filling_none, filling_all}
-use Rattle.base.proofs.Loops.{folded_none, every_all}
+use Rattle.base.proofs.Filled.{filling_all}
+use Rattle.base.proofs.Loops.{every_all}
 use Rattle.service.specs.Limits.{max_services}
 use Rattle.service.specs.Records.{record_at}
 use Rattle.engine_wellformed.specs.Place.{place_formed}
@@ -15,16 +15,10 @@ use Rattle.engine_wellformed.proofs.is_formed.Goals as goal
 pub returns-then-t-gt-MAX_SERVICES : goal.returns-then-t-gt-MAX_SERVICES
 returns-then-t-gt-MAX_SERVICES c = search not_formed
 
-pub loop-i-init : goal.loop-i-init
-loop-i-init c = filling_none c.if-t-gt-MAX_SERVICES.false refl
-
 pub loop-i-preserved : goal.loop-i-preserved
 loop-i-preserved c =
     let z : length c.args.t.services ≡ max_services = search (rules, length_mapped) in
     filling_read c.args.t _ _ _ _ z c.loop-i.invariant c.loop-i-test.true c.all_links.ensures
-
-pub loop-s-init : goal.loop-s-init
-loop-s-init c = folded_none
 
 pub loop-s-preserved : goal.loop-s-preserved
 unfolding record_at
