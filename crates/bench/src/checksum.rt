@@ -1,10 +1,6 @@
 // The checksum: answers and states as numbers, taken up one after the other.
 use crate::inputs::LARGE;
-use service::{
-    Action, ActionAnswer, Deadline, EventAnswer, MAX_SERVICES, QueryAnswer, Record, Refusal,
-    RunAnswer, State, action_number, action_service, cause_number, is_quiet, phase_number,
-    refusal_number,
-};
+use service::{Action, MAX_SERVICES, Record, Refusal, State};
 
 // The checksum with one number more.
 pub(crate) fn taken_up(sum: u64, number: u64) -> u64 {
@@ -20,70 +16,70 @@ fn flag(b: bool, weight: u64) -> u64 {
 pub(crate) fn record_number(r: Record) -> u64 {
     let p = r.phase;
     let c = r.cause;
-    phase_number(p)
+    u64::from(p)
         | flag(r.wanted, 64)
         | flag(r.aside, 128)
         | flag(r.live, 256)
         | flag(r.killed, 512)
-        | (8 * (cause_number(c) % 8))
+        | (8 * (u64::from(c) % 8))
 }
 
-fn time_number(d: Deadline) -> u64 {
+fn time_number(d: Option<u64>) -> u64 {
     match d {
-        Deadline::None => 0,
-        Deadline::At(e) => 1 + e % 4294967295,
+        None => 0,
+        Some(e) => 1 + e % 4294967295,
     }
 }
 
 fn refused(k: Refusal) -> u64 {
-    1024 * (refusal_number(k) % 32)
+    1024 * (u64::from(k) % 32)
 }
 
 // The checksum with an event's answer and the record that it left.
-pub(crate) fn event_taken_up(sum: u64, a: EventAnswer, r: Record) -> u64 {
+pub(crate) fn event_taken_up(sum: u64, a: Result<(), Refusal>, r: Record) -> u64 {
     match a {
-        EventAnswer::Done => taken_up(sum, record_number(r)),
-        EventAnswer::Refused(k) => taken_up(sum, refused(k) | record_number(r)),
+        Ok(()) => taken_up(sum, record_number(r)),
+        Err(k) => taken_up(sum, refused(k) | record_number(r)),
     }
 }
 
 fn act_number(a: Action) -> u64 {
-    if is_quiet(a) {
+    if a == Action::Quiet {
         return 0;
     }
-    1 + action_service(a) % LARGE as u64 + LARGE as u64 * (action_number(a) % 16)
+    1 + a.service() % LARGE as u64 + LARGE as u64 * (a.number() % 16)
 }
 
-pub(crate) fn answer_taken_up(sum: u64, a: ActionAnswer) -> u64 {
+pub(crate) fn answer_taken_up(sum: u64, a: Result<Action, Refusal>) -> u64 {
     match a {
-        ActionAnswer::Act(act) => taken_up(sum, act_number(act)),
-        ActionAnswer::Refused(k) => taken_up(sum, refused(k)),
+        Ok(act) => taken_up(sum, act_number(act)),
+        Err(k) => taken_up(sum, refused(k)),
     }
 }
 
-fn run_number(a: RunAnswer) -> u64 {
+fn run_number(a: Result<usize, Refusal>) -> u64 {
     match a {
-        RunAnswer::Ran(k) => k as u64,
-        RunAnswer::Refused(k) => refused(k),
+        Ok(k) => k as u64,
+        Err(k) => refused(k),
     }
 }
 
 // The checksum with a run's answer and the numbers at one of its places.
-pub(crate) fn run_taken_up(sum: u64, a: RunAnswer, service: u64, action: u64) -> u64 {
+pub(crate) fn run_taken_up(sum: u64, a: Result<usize, Refusal>, service: u64, action: u64) -> u64 {
     taken_up(taken_up(taken_up(sum, run_number(a)), service), action)
 }
 
-fn earliest_number(d: Deadline) -> u64 {
+fn earliest_number(d: Option<u64>) -> u64 {
     match d {
-        Deadline::None => 0,
-        Deadline::At(e) => e,
+        None => 0,
+        Some(e) => e,
     }
 }
 
-pub(crate) fn query_taken_up(sum: u64, a: QueryAnswer) -> u64 {
+pub(crate) fn query_taken_up(sum: u64, a: Result<Option<u64>, Refusal>) -> u64 {
     match a {
-        QueryAnswer::Earliest(d) => taken_up(sum, earliest_number(d)),
-        QueryAnswer::Refused(k) => taken_up(sum, refused(k)),
+        Ok(d) => taken_up(sum, earliest_number(d)),
+        Err(k) => taken_up(sum, refused(k)),
     }
 }
 

@@ -3,7 +3,7 @@ ghost use Rattle.std.specs.Prelude.{◌<◌};
 ghost use Rattle.service.specs.Limits.{max_services};
 
 use base::single_of;
-use service::{Kind, MAX_SERVICES, Phase, Record, Settings, State, Table, with_phase};
+use service::{Kind, MAX_SERVICES, Phase, Record, Settings, State, Table};
 
 // The numbers of services.
 pub(crate) const SMALL: usize = 2;
@@ -98,7 +98,8 @@ fn time_of(i: usize, first: u64) -> u64 {
 }
 
 pub(crate) fn record_of(i: usize, up: bool, not_before: u64) -> Record {
-    let mut r = with_phase(phase_of(up), Record::fresh());
+    let mut r = Record::fresh();
+    r.phase = phase_of(up);
     r.wanted = true;
     r.live = up & !is_internal(i);
     r.not_before = not_before;

@@ -19,14 +19,12 @@ use Rattle.service.specs.Records.{record_at, with_record}
 use Rattle.service.specs.Numbers.{is_quiet, action_service, action_number}
 use Rattle.service.specs.declared.Action.{Action}
 use Rattle.service.specs.declared.Action.TheVariants.{Quiet}
-use Rattle.service.specs.declared.ActionAnswer.TheVariants.{Act}
-use Rattle.service.specs.declared.RunAnswer.TheVariants.{Ran as RanTo}
-use Rattle.service.specs.declared.Ran.{Ran}
+use Rattle.std.specs.Prelude.{Ok}
+use Rattle.service.specs.declared.Answered.{Answered}
 use Rattle.service.specs.declared.Record.{Record}
 use Rattle.service.specs.declared.Table.{Table}
 use Rattle.service.specs.declared.Settings.{Settings}
 use Rattle.service.specs.declared.State.{State}
-use Rattle.service.specs.declared.Stepped.{Stepped}
 use Rattle.rules.specs.declared.Rule.{Rule}
 use Rattle.rules.specs.declared.Choice.{Choice}
 use Rattle.rules.specs.declared.Choice.TheVariants.{Quiet as NoRule, Fit}
@@ -173,14 +171,14 @@ module _ (t : Table) (x : State) (q : Bool) (s a s' a' : List ℕ) (r : Progress
   accepted : formed t x ≡ true
   accepted = sym e ∙ h
 
-  pub next_done : (z : Stepped) → Advanced t x 1 s a r s' a' → z ≡ record { answer = Act r.last; state = r.state }
+  pub next_done : (z : Answered Action) → Advanced t x 1 s a r s' a' → z ≡ record { answer = Ok r.last; state = r.state }
       → stepped_outcome z ≡ outcome t x next
   unfolding outcome check
   next_done z w g =
       rw (g, accepted)
       (ap (λ (y : Step). gives next (acted y.action) y.state) (w.single refl))
 
-  module _ (z : Ran) (w : Advanced t x (4 * t.count) s a r s' a') (g : z ≡ record { answer = RanTo r.count; state = r.state }) where
+  module _ (z : Answered ℕ) (w : Advanced t x (4 * t.count) s a r s' a') (g : z ≡ record { answer = Ok r.count; state = r.state }) where
     steps : r.count ≡ steps_to_quiet t x
     unfolding steps_to_quiet
     steps = w.count

@@ -3,9 +3,9 @@ use Rattle.std.specs.Prelude.{ℕ, ◌*◌, ◌≤◌, ◌≡◌, Bool, true, �
 use Rattle.base.specs.Folds.{first}
 use Rattle.service.specs.Limits.{most_actions}
 use Rattle.service.specs.Numbers.{action_number, action_service, is_quiet}
-use Rattle.service.specs.declared.RunAnswer.{RunAnswer}
-use Rattle.service.specs.declared.RunAnswer.TheVariants.{Ran as RanTo, Refused}
-use Rattle.service.specs.declared.Ran.{Ran}
+use Rattle.std.specs.Prelude.{Err, Ok, Result}
+use Rattle.service.specs.declared.Answered.{Answered}
+use Rattle.service.specs.declared.Refusal.{Refusal}
 use Rattle.service.specs.declared.Table.{Table}
 use Rattle.service.specs.declared.State.{State}
 use Rattle.rules.specs.Rules.{Step, next_action}
@@ -13,11 +13,11 @@ use Rattle.rules.specs.Runs.{action_after, state_after, written}
 use Rattle.engine.specs.declared.Progress.{Progress}
 
 -- the number of actions is at most 4n, and the action after them is quiet
-abbrev pub rested_as : RunAnswer → Table → State → Bool
-rested_as (RanTo k) t x = leb k (4 * t.count) && is_quiet (next_action t x).action
-rested_as (Refused k) t x = true
+abbrev pub rested_as : Result ℕ Refusal → Table → State → Bool
+rested_as (Ok k) t x = leb k (4 * t.count) && is_quiet (next_action t x).action
+rested_as (Err k) t x = true
 
-abbrev pub rested_within : Table → Ran → Bool
+abbrev pub rested_within : Table → Answered ℕ → Bool
 rested_within t r = rested_as r.answer t r.state
 
 -- two slices with room for m actions, which are no more than a run can have

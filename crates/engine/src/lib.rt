@@ -4,7 +4,6 @@
 #![tactic(auto)]
 
 ghost use Rattle.std.specs.Prelude.{◌≡◌, true, suc, ◌≤◌, set};
-ghost use Rattle.service.specs.declared.RunAnswer.TheVariants.{Refused};
 ghost use Rattle.service.specs.Limits.{max_services};
 ghost use Rattle.service.specs.Numbers.{action_number, action_service};
 ghost use Rattle.service.specs.Records.{fresh_state};
@@ -20,10 +19,8 @@ use engine_records::leave;
 use engine_wellformed::is_formed;
 use rules::Choice;
 pub use service::{
-    Action, ActionAnswer, Cause, Changed, Deadline, EventAnswer, Kind, LAST_CLOCK, MAX_ACTIONS,
-    MAX_SERVICES, Phase, QueryAnswer, Ran, Record, Refusal, RunAnswer, Settings, Signal, State,
-    Stepped, Table, action_number, action_service, cause_number, is_quiet, phase_number,
-    refusal_number, signal_number,
+    Action, Answered, Cause, Kind, LAST_CLOCK, MAX_ACTIONS, MAX_SERVICES, Phase, Record, Refusal,
+    Settings, Signal, State, Table,
 };
 
 // The state that a supervisor begins with.
@@ -47,8 +44,8 @@ fn write_action(k: usize, a: Action, services: &mut [u64], actions: &mut [u64])
     ensures services_after { services.new ≡ set services.old k (action_service a) }
     ensures actions_after { actions.new ≡ set actions.old k (action_number a) }
 {
-    services[k] = action_service(a);
-    actions[k] = action_number(a);
+    services[k] = a.service();
+    actions[k] = a.number();
 }
 
 // Hands out actions until all is quiet, but no more than the limit, from a state that has passed list 24. Both passes of a step stand
@@ -59,23 +56,14 @@ fn advance(t: Table, x: State, limit: usize, services: &mut [u64], actions: &mut
 {
     let mut y = x;
     let mut last = Action::Quiet;
-    let mut k: usize = 0;
-    while k < limit {
+    for k in 0..limit {
         let mut st = Standing::none();
-        let mut i: usize = 0;
-        while i < t.count {
-            let v = t.services[i];
-            let r = y.records[i];
-            st = noted(st, v, r, i);
-            i += 1;
+        for i in 0..t.count {
+            st = noted(st, t.services[i], y.records[i], i);
         }
         let mut f = Fits::none();
-        let mut j: usize = 0;
-        while j < t.count {
-            let v = t.services[j];
-            let r = y.records[j];
-            f = fit(f, y.clock, v, r, st, j);
-            j += 1;
+        for j in 0..t.count {
+            f = fit(f, y.clock, t.services[j], y.records[j], st, j);
         }
         let c = choose(f, t.count);
         let Choice::Fit(rule, s) = c else {
@@ -92,17 +80,16 @@ fn advance(t: Table, x: State, limit: usize, services: &mut [u64], actions: &mut
         last = hand_out(rule, v, r, s);
         y.records[s] = q;
         write_action(k, last, services, actions);
-        k += 1;
     }
     Progress {
         last,
-        count: k,
+        count: limit,
         state: y,
     }
 }
 
 // The next action.
-pub fn next_action(t: Table, x: State) -> Stepped
+pub fn next_action(t: Table, x: State) -> Answered<Action>
     ensures { stepped_outcome result ≡ outcome t x nextCall }
 {
     if is_formed(t, x) {
@@ -111,28 +98,21 @@ pub fn next_action(t: Table, x: State) -> Stepped
         let z = advance(t, x, 1, &mut services, &mut actions);
         let a = z.last;
         let left = z.state;
-        return Stepped {
-            answer: ActionAnswer::Act(a),
+        return Answered {
+            answer: Ok(a),
             state: left,
         };
     }
-    Stepped {
-        answer: ActionAnswer::Refused(Refusal::IllFormed),
-        state: x,
-    }
-}
-
-fn refuse_run(k: Refusal, x: State) -> Ran
-    ensures { result ≡ record { answer = Refused k; state = x } }
-{
-    Ran {
-        answer: RunAnswer::Refused(k),
-        state: x,
-    }
+    Answered::refused(Refusal::IllFormed, x)
 }
 
 // A run to quiet: the services and the actions go to the two lent slices, and the number of actions is given back.
-pub fn run_to_quiet(t: Table, x: State, services: &mut [u64], actions: &mut [u64]) -> Ran
+pub fn run_to_quiet(
+    t: Table,
+    x: State,
+    services: &mut [u64],
+    actions: &mut [u64],
+) -> Answered<usize>
     ensures actions_after { ran_outcome result services.new actions.new ≡ outcome t x (runCall services.old actions.old) }
     ensures result_value { rested_within t result ≡ true }
 {
@@ -142,14 +122,14 @@ pub fn run_to_quiet(t: Table, x: State, services: &mut [u64], actions: &mut [u64
             if room <= actions.len() {
                 let z = advance(t, x, room, services, actions);
                 let rest = z.state;
-                return Ran {
-                    answer: RunAnswer::Ran(z.count),
+                return Answered {
+                    answer: Ok(z.count),
                     state: rest,
                 };
             }
-            return refuse_run(Refusal::NoRoom, x);
+            return Answered::refused(Refusal::NoRoom, x);
         }
-        return refuse_run(Refusal::NoRoom, x);
+        return Answered::refused(Refusal::NoRoom, x);
     }
-    refuse_run(Refusal::IllFormed, x)
+    Answered::refused(Refusal::IllFormed, x)
 }

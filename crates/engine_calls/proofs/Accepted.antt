@@ -16,8 +16,8 @@ use Rattle.service.specs.declared.Record.{Record}
 use Rattle.service.specs.declared.Settings.{Settings}
 use Rattle.service.specs.declared.Table.{Table}
 use Rattle.service.specs.declared.State.{State}
-use Rattle.service.specs.declared.Changed.{Changed}
-use Rattle.service.specs.declared.EventAnswer.TheVariants.{Done, Refused}
+use Rattle.std.specs.Prelude.{Err, Ok}
+use Rattle.service.specs.declared.Answered.{Answered}
 use Rattle.service.specs.declared.Refusal.TheVariants.{IllFormed, NoService}
 use Rattle.rules.specs.Dependencies.{all_links}
 use Rattle.rules.specs.WellFormed.{formed}
@@ -27,11 +27,11 @@ use Rattle.rules.proofs.Formed.{formed_few}
 use Rattle.engine_records.specs.Sound.{sound}
 use Rattle.engine_records.proofs.Formed.{sound_at}
 
-module _ (t : Table) (x : State) (q : Bool) (w : Changed) where
+module _ (t : Table) (x : State) (q : Bool) (w : Answered (Unit {0})) where
   -- m is what the code found s to reach
   pub start_done : (s m : ℕ) (y : State) → q ≡ formed t x → not q ≡ false → s < t.count
       → m ≡ pick (leb t.count max_services && ltb s t.count) (reach (all_links t) t.count s) 0
-      → y ≡ each (λ d r. started_as (eqb d s) (eqb d s || has_bit m d) r) x t.count → w ≡ record { answer = Done; state = y }
+      → y ≡ each (λ d r. started_as (eqb d s) (eqb d s || has_bit m d) r) x t.count → w ≡ record { answer = Ok tt; state = y }
       → changed_outcome w ≡ outcome t x (start s)
   unfolding outcome check after_start start_reaches
   start_done s m y e h l g a d =
@@ -41,14 +41,14 @@ module _ (t : Table) (x : State) (q : Bool) (w : Changed) where
       = a ∙ ap (λ n. each (λ d r. started_as (eqb d s) (eqb d s || has_bit n d) r) x t.count) k in
       rw (d, b, f, lt-ltb s t.count l)
 
-  pub start_absent : (s : ℕ) → q ≡ formed t x → not q ≡ false → t.count ≤ s → w ≡ record { answer = Refused NoService; state = x }
+  pub start_absent : (s : ℕ) → q ≡ formed t x → not q ≡ false → t.count ≤ s → w ≡ record { answer = Err NoService; state = x }
       → changed_outcome w ≡ outcome t x (start s)
   unfolding outcome check
   start_absent s e h l d =
       let f : formed t x ≡ true = sym e ∙ (not_false q).0 h in
       rw (d, f, le-ltb s t.count l)
 
-  pub start_ill : (s : ℕ) → q ≡ formed t x → not q ≡ true → w ≡ record { answer = Refused IllFormed; state = x }
+  pub start_ill : (s : ℕ) → q ≡ formed t x → not q ≡ true → w ≡ record { answer = Err IllFormed; state = x }
       → changed_outcome w ≡ outcome t x (start s)
   unfolding outcome check
   start_ill s e h d =
@@ -56,20 +56,20 @@ module _ (t : Table) (x : State) (q : Bool) (w : Changed) where
       rw (d, f)
 
   pub stop_done : (s : ℕ) (r : Record) → q ≡ formed t x → q ≡ true → s < t.count → r ≡ stopped (record_at x s)
-      → w ≡ record { answer = Done; state = with_record x s r } → changed_outcome w ≡ outcome t x (stop s)
+      → w ≡ record { answer = Ok tt; state = with_record x s r } → changed_outcome w ≡ outcome t x (stop s)
   unfolding outcome check after_stop
   stop_done s r e h l a d =
       let f : formed t x ≡ true = sym e ∙ h in
       rw (d, a, f, lt-ltb s t.count l)
 
-  pub stop_absent : (s : ℕ) → q ≡ formed t x → q ≡ true → t.count ≤ s → w ≡ record { answer = Refused NoService; state = x }
+  pub stop_absent : (s : ℕ) → q ≡ formed t x → q ≡ true → t.count ≤ s → w ≡ record { answer = Err NoService; state = x }
       → changed_outcome w ≡ outcome t x (stop s)
   unfolding outcome check
   stop_absent s e h l d =
       let f : formed t x ≡ true = sym e ∙ h in
       rw (d, f, le-ltb s t.count l)
 
-  pub stop_ill : (s : ℕ) → q ≡ formed t x → q ≡ false → w ≡ record { answer = Refused IllFormed; state = x }
+  pub stop_ill : (s : ℕ) → q ≡ formed t x → q ≡ false → w ≡ record { answer = Err IllFormed; state = x }
       → changed_outcome w ≡ outcome t x (stop s)
   unfolding outcome check
   stop_ill s e h d =
@@ -79,7 +79,7 @@ module _ (t : Table) (x : State) (q : Bool) (w : Changed) where
   -- v is what the code read of the settings
   pub end_done : (s : ℕ) (good : Bool) (r : Record) (v : Settings) → v ≡ settings_at t s → q ≡ formed t x → q ≡ true → s < t.count → (record_at x s).live ≡ true
       → r ≡ pick (sound v x.clock (record_at x s)) (ended_as (record_at x s).phase v x.clock (brings v good) (record_at x s)) (record_at x s)
-      → w ≡ record { answer = Done; state = with_record x s r } → changed_outcome w ≡ outcome t x (end s good)
+      → w ≡ record { answer = Ok tt; state = with_record x s r } → changed_outcome w ≡ outcome t x (end s good)
   unfolding outcome check after_end
   end_done s good r v i e h l n a d =
       let f : formed t x ≡ true = sym e ∙ h in
@@ -88,7 +88,7 @@ module _ (t : Table) (x : State) (q : Bool) (w : Changed) where
       rw (d, b, f, lt-ltb s t.count l, n)
 
   pub clock_done : (to : ℕ) → q ≡ formed t x → q ≡ true → x.clock ≤ to → to ≤ last_clock
-      → w ≡ record { answer = Done; state = record { clock = to; records = x.records } } → changed_outcome w ≡ outcome t x (clock to)
+      → w ≡ record { answer = Ok tt; state = record { clock = to; records = x.records } } → changed_outcome w ≡ outcome t x (clock to)
   unfolding outcome check after_clock
   clock_done to e h l k d =
       let f : formed t x ≡ true = sym e ∙ h in
@@ -96,13 +96,13 @@ module _ (t : Table) (x : State) (q : Bool) (w : Changed) where
 
 module _ (t : Table) (x : State) (q : Bool) (e : q ≡ formed t x) where
   pub stop_all_done : (y : State) → not q ≡ false → y ≡ each (λ d r. stopped r) x t.count
-      → changed_outcome (record { answer = Done; state = y }) ≡ outcome t x stop_all
+      → changed_outcome (record { answer = Ok tt; state = y }) ≡ outcome t x stop_all
   unfolding outcome check after_stop_all
   stop_all_done y h a =
       let f : formed t x ≡ true = sym e ∙ (not_false q).0 h in
       rw (a, f)
 
-  pub stop_all_ill : not q ≡ true → changed_outcome (record { answer = Refused IllFormed; state = x }) ≡ outcome t x stop_all
+  pub stop_all_ill : not q ≡ true → changed_outcome (record { answer = Err IllFormed; state = x }) ≡ outcome t x stop_all
   unfolding outcome check
   stop_all_ill h =
       let f : formed t x ≡ false = sym e ∙ (not_true q).0 h in

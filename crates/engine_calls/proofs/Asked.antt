@@ -5,7 +5,7 @@ use mathlib.Core.Bool.{Bool, true}
 use Rattle.base.proofs.Loops.{Folded, folded_none, folded_more, folded_all}
 use Rattle.service.specs.Limits.{max_services}
 use Rattle.std.specs.Prelude.{Option, None}
-use Rattle.service.specs.declared.QueryAnswer.TheVariants.{Earliest}
+use Rattle.std.specs.Prelude.{Ok}
 use Rattle.service.specs.Records.{record_at}
 use Rattle.service.specs.declared.Table.{Table}
 use Rattle.service.specs.declared.State.{State}
@@ -27,6 +27,6 @@ module _ {t : Table} {x : State} where
   pub asking_more : {d e : Option ℕ} {i : ℕ} → Asking t x d i → i < t.count → e ≡ sooner_of x.clock d (record_at x i) → Asking t x e (i + 1)
   asking_more h l e = record { passed = h.passed; few = h.few; folded = folded_more h.folded l e }
 
-  pub asking_all : {d : Option ℕ} {i : ℕ} → Asking t x d i → t.count ≤ i → query_outcome (Earliest d) x ≡ outcome t x query
+  pub asking_all : {d : Option ℕ} {i : ℕ} → Asking t x d i → t.count ≤ i → query_outcome (Ok d) x ≡ outcome t x query
   unfolding outcome check earliest
   asking_all h l = rw (folded_all h.folded l, h.passed)

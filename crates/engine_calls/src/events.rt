@@ -2,29 +2,19 @@
 // paper 01's order; a refused call gives back the state it got.
 ghost use Rattle.std.specs.Prelude.{◌≡◌, ◌||◌, eqb};
 ghost use Rattle.base.specs.Sets.{has_bit};
-ghost use Rattle.service.specs.declared.EventAnswer.TheVariants.{Done, Refused};
 ghost use Rattle.rules.specs.Events.{started_as};
 ghost use Rattle.rules.specs.Calls.{start as startCall, stop as stopCall, stop_all, end as endCall, clock as clockCall, outcome, changed_outcome};
 
 use base::has_bit;
 use engine_records::{end_record, start_record, stop_record};
 use engine_wellformed::{is_formed, reach_set};
-use service::{Changed, EventAnswer, LAST_CLOCK, Record, Refusal, State, Table};
+use service::{Answered, LAST_CLOCK, Record, Refusal, State, Table};
 
-fn refuse(k: Refusal, x: State) -> Changed
-    ensures { result ≡ record { answer = Refused k; state = x } }
+fn done(x: State) -> Answered<()>
+    ensures { result ≡ record { answer = Ok tt; state = x } }
 {
-    Changed {
-        answer: EventAnswer::Refused(k),
-        state: x,
-    }
-}
-
-fn done(x: State) -> Changed
-    ensures { result ≡ record { answer = Done; state = x } }
-{
-    Changed {
-        answer: EventAnswer::Done,
+    Answered {
+        answer: Ok(()),
         state: x,
     }
 }
@@ -38,28 +28,24 @@ fn start_place(s: usize, m: u64, i: usize, r: Record) -> Record
 }
 
 // Start s. The loop stands here and changes the state that it got: a function of its own would take and give a copy.
-pub fn start(t: Table, mut x: State, s: usize) -> Changed
+pub fn start(t: Table, mut x: State, s: usize) -> Answered<()>
     ensures { changed_outcome result ≡ outcome t x (startCall s) }
 {
     if !is_formed(t, x) {
-        return refuse(Refusal::IllFormed, x);
+        return Answered::refused(Refusal::IllFormed, x);
     }
     if t.count <= s {
-        return refuse(Refusal::NoService, x);
+        return Answered::refused(Refusal::NoService, x);
     }
     let m = reach_set(t, s);
-    let mut i: usize = 0;
-    while i < t.count {
-        let r = x.records[i];
-        let q = start_place(s, m, i, r);
-        x.records[i] = q;
-        i += 1;
+    for i in 0..t.count {
+        x.records[i] = start_place(s, m, i, x.records[i]);
     }
     done(x)
 }
 
 // Stop s.
-pub fn stop(t: Table, mut x: State, s: usize) -> Changed
+pub fn stop(t: Table, mut x: State, s: usize) -> Answered<()>
     ensures { changed_outcome result ≡ outcome t x (stopCall s) }
 {
     let formed = is_formed(t, x);
@@ -71,36 +57,32 @@ pub fn stop(t: Table, mut x: State, s: usize) -> Changed
             x.records[s] = stopped;
             return done(x);
         }
-        return refuse(Refusal::NoService, x);
+        return Answered::refused(Refusal::NoService, x);
     }
-    refuse(Refusal::IllFormed, x)
+    Answered::refused(Refusal::IllFormed, x)
 }
 
-// Stop for each. The answers are written out: `done` and `refuse` would cost the loop a copy of the state.
-pub fn stop_all(t: Table, mut x: State) -> Changed
+// Stop for each. The answers are written out: `done` and `refused` would cost the loop a copy of the state.
+pub fn stop_all(t: Table, mut x: State) -> Answered<()>
     ensures { changed_outcome result ≡ outcome t x stop_all }
 {
     if !is_formed(t, x) {
-        return Changed {
-            answer: EventAnswer::Refused(Refusal::IllFormed),
+        return Answered {
+            answer: Err(Refusal::IllFormed),
             state: x,
         };
     }
-    let mut k: usize = 0;
-    while k < t.count {
-        let r = x.records[k];
-        let q = stop_record(r);
-        x.records[k] = q;
-        k += 1;
+    for k in 0..t.count {
+        x.records[k] = stop_record(x.records[k]);
     }
-    Changed {
-        answer: EventAnswer::Done,
+    Answered {
+        answer: Ok(()),
         state: x,
     }
 }
 
 // The process of s has ended, good or bad.
-pub fn end(t: Table, mut x: State, s: usize, good: bool) -> Changed
+pub fn end(t: Table, mut x: State, s: usize, good: bool) -> Answered<()>
     ensures { changed_outcome result ≡ outcome t x (endCall s good) }
 {
     if is_formed(t, x) {
@@ -112,15 +94,15 @@ pub fn end(t: Table, mut x: State, s: usize, good: bool) -> Changed
                 x.records[s] = q;
                 return done(x);
             }
-            return refuse(Refusal::NotLive, x);
+            return Answered::refused(Refusal::NotLive, x);
         }
-        return refuse(Refusal::NoService, x);
+        return Answered::refused(Refusal::NoService, x);
     }
-    refuse(Refusal::IllFormed, x)
+    Answered::refused(Refusal::IllFormed, x)
 }
 
 // The clock shows another time.
-pub fn clock(t: Table, x: State, to: u64) -> Changed
+pub fn clock(t: Table, x: State, to: u64) -> Answered<()>
     ensures { changed_outcome result ≡ outcome t x (clockCall to) }
 {
     if is_formed(t, x) {
@@ -130,9 +112,9 @@ pub fn clock(t: Table, x: State, to: u64) -> Changed
             if to <= LAST_CLOCK {
                 return done(later);
             }
-            return refuse(Refusal::ClockPast, x);
+            return Answered::refused(Refusal::ClockPast, x);
         }
-        return refuse(Refusal::ClockBack, x);
+        return Answered::refused(Refusal::ClockBack, x);
     }
-    refuse(Refusal::IllFormed, x)
+    Answered::refused(Refusal::IllFormed, x)
 }

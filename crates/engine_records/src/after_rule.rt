@@ -98,8 +98,9 @@ fn end(v: Settings, now: u64, r: Record) -> Record
     requires { Sound v now r }
     ensures { result ≡ ending v now r }
 {
+    let phase = Phase::Ending;
     Record {
-        phase: Phase::Ending,
+        phase,
         live: true,
         deadline: deadline_in(now, v.stop_timeout),
         ..r

@@ -8,19 +8,11 @@ use Rattle.base.specs.Folds.{pick}
 use Rattle.base.proofs.Tests.{not_false, not_true}
 use Rattle.service.specs.Numbers.{action_number, action_service, is_quiet, refusal_number}
 use Rattle.service.specs.declared.Action.{Action}
-use Rattle.service.specs.declared.ActionAnswer.{ActionAnswer}
-use Rattle.service.specs.declared.ActionAnswer.TheVariants.{Act, Refused as ActionRefused}
-use Rattle.service.specs.declared.Changed.{Changed}
-use Rattle.service.specs.declared.EventAnswer.{EventAnswer}
-use Rattle.service.specs.declared.EventAnswer.TheVariants.{Done, Refused as EventRefused}
-use Rattle.service.specs.declared.QueryAnswer.{QueryAnswer}
-use Rattle.service.specs.declared.Ran.{Ran}
+use Rattle.std.specs.Prelude.{Err, Ok, Option, Result}
+use Rattle.service.specs.declared.Answered.{Answered}
 use Rattle.service.specs.declared.Refusal.{Refusal}
 use Rattle.service.specs.declared.Refusal.TheVariants.{IllFormed, NoService, NotLive, ClockBack, ClockPast, NoRoom}
-use Rattle.service.specs.declared.RunAnswer.{RunAnswer}
-use Rattle.service.specs.declared.RunAnswer.TheVariants.{Ran as RanTo, Refused as RunRefused}
 use Rattle.service.specs.declared.State.{State}
-use Rattle.service.specs.declared.Stepped.{Stepped}
 use Rattle.service.specs.declared.Table.{Table}
 use Rattle.rules.specs.Calls.{Answer, Call, Outcome, acted, check, done, gives, lent_actions, lent_services, next, outcome, query, ran, refused, run, told}
 use Rattle.rules.specs.Calls.{action_answer, changed_outcome, event_answer, query_answer, query_outcome, ran_outcome, run_answer, stepped_outcome}
@@ -45,17 +37,17 @@ refusal_told ClockBack l m = refl
 refusal_told ClockPast l m = refl
 refusal_told NoRoom l m = refl
 
-event_told : (a : EventAnswer) → Told (event_answer a)
-event_told Done l m = refl
-event_told (EventRefused k) l m = refusal_told k l m
+event_told : (a : Result (Unit {0}) Refusal) → Told (event_answer a)
+event_told (Ok _) l m = refl
+event_told (Err k) l m = refusal_told k l m
 
-action_told : (a : ActionAnswer) → Told (action_answer a)
-action_told (Act a) l m = refl
-action_told (ActionRefused k) l m = refusal_told k l m
+action_told : (a : Result Action Refusal) → Told (action_answer a)
+action_told (Ok a) l m = refl
+action_told (Err k) l m = refusal_told k l m
 
-run_told : (a : RunAnswer) → Told (run_answer a)
-run_told (RanTo n) l m = refl
-run_told (RunRefused k) l m = refusal_told k l m
+run_told : (a : Result ℕ Refusal) → Told (run_answer a)
+run_told (Ok n) l m = refl
+run_told (Err k) l m = refusal_told k l m
 
 -- ---- and stands in each answer
 
@@ -126,25 +118,25 @@ changed_as t x q h = h ∙ sym (ap (λ (e : Event). outcome t x (call_of e)) q)
 
 -- ---- an action in numbers
 
-pub acted_as : {d : ActionAnswer} {a : Action} {q : Bool} {s n : ℕ} → d ≡ Act a → q ≡ is_quiet a → s ≡ action_service a → n ≡ action_number a
+pub acted_as : {d : (Result Action Refusal)} {a : Action} {q : Bool} {s n : ℕ} → d ≡ Ok a → q ≡ is_quiet a → s ≡ action_service a → n ≡ action_number a
     → record { refusal = 0; quiet = q; service = s; action = n } ≡ next_of (action_answer d)
 acted_as e q s n = rw (e, q, s, n)
 
 -- ---- the calls
 
 module _ (t l : List ℕ) {T : Table} {X : State} {b : Bool} (k : Told-by t l T X b) where
-  pub event_kept : (c : Call) (y : Changed) → changed_outcome y ≡ outcome T X c → {n : ℕ} {m : List ℕ}
+  pub event_kept : (c : Call) (y : Answered (Unit {0})) → changed_outcome y ≡ outcome T X c → {n : ℕ} {m : List ℕ}
       → n ≡ refusal_of (event_answer y.answer) → m ≡ pick (eqb n 0) (state_numbers l y.state) l → Called refusal_of (on t l c) l n m
   event_kept c y h q p = is_kept t l c (changed_outcome y) k h refusal_of (event_told y.answer) q q p
 
-  pub next_kept : (y : Stepped) → stepped_outcome y ≡ outcome T X next → {r : Next} {m : List ℕ}
+  pub next_kept : (y : Answered Action) → stepped_outcome y ≡ outcome T X next → {r : Next} {m : List ℕ}
       → r ≡ next_of (action_answer y.answer) → m ≡ pick (eqb r.refusal 0) (state_numbers l y.state) l
       → Called next_of (on t l next) l r m
   next_kept y h q p =
       is_kept t l next (stepped_outcome y) k h next_of (action_told y.answer) q
       (ap (λ (r : Next). r.refusal) q ∙ next_refusal (action_answer y.answer)) p
 
-  module _ (ss as' : List ℕ) (y : Ran) {ss₁ as₁ : List ℕ} (h : ran_outcome y ss₁ as₁ ≡ outcome T X (run ss as')) where
+  module _ (ss as' : List ℕ) (y : Answered ℕ) {ss₁ as₁ : List ℕ} (h : ran_outcome y ss₁ as₁ ≡ outcome T X (run ss as')) where
     pub run_kept : {r : Run} {m : List ℕ} → r ≡ run_of (run_answer y.answer) → m ≡ pick (eqb r.refusal 0) (state_numbers l y.state) l
         → Called run_of (on t l (run ss as')) l r m
     run_kept q p =
@@ -156,6 +148,6 @@ module _ (t l : List ℕ) {T : Table} {X : State} {b : Bool} (k : Told-by t l T 
         let w = is_on t l (run ss as') (ran_outcome y ss₁ as₁) k h in
         record { services = ap (λ (z : Outcome). z.services) w; actions = ap (λ (z : Outcome). z.actions) w }
 
-  pub query_told : (a : QueryAnswer) → query_outcome a X ≡ outcome T X query → {r : Asked}
+  pub query_told : (a : Result (Option ℕ) Refusal) → query_outcome a X ≡ outcome T X query → {r : Asked}
       → r ≡ asked_of (query_answer a) → r ≡ asked_of (on t l query).answer
   query_told a h q = q ∙ ap (λ (z : Outcome). asked_of z.answer) (is_on t l query (query_outcome a X) k h)

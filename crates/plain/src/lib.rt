@@ -19,10 +19,7 @@ use loader::{Commands, Loaded};
 use plain_encoding::{
     Numbers, is_state, is_table, read_state, read_table, write_state, write_table,
 };
-use service::{
-    ActionAnswer, Changed, Deadline, EventAnswer, MAX_SERVICES, QueryAnswer, Refusal, RunAnswer,
-    State, Table, action_number, action_service, is_quiet, refusal_number,
-};
+use service::{Action, Answered, MAX_SERVICES, Refusal, State, Table};
 
 // ---- the calls
 
@@ -43,7 +40,7 @@ fn keep(numbers: &mut Numbers, refusal: u64, x: State)
 }
 
 // What an event does to the state.
-fn change(t: Table, x: State, e: Event) -> Changed
+fn change(t: Table, x: State, e: Event) -> Answered<()>
     ensures { changed_outcome result ≡ outcome t x (call_of e) }
 {
     match e {
@@ -55,12 +52,12 @@ fn change(t: Table, x: State, e: Event) -> Changed
     }
 }
 
-fn event_refusal(answer: EventAnswer) -> u64
+fn event_refusal(answer: Result<(), Refusal>) -> u64
     ensures { result ≡ refusal_of (event_answer answer) }
 {
     match answer {
-        EventAnswer::Done => 0,
-        EventAnswer::Refused(refusal) => refusal_number(refusal),
+        Ok(()) => 0,
+        Err(refusal) => u64::from(refusal),
     }
 }
 
@@ -69,7 +66,7 @@ pub fn event(table: &Numbers, state: &mut Numbers, e: Event) -> u64
     ensures { Called refusal_of (on table.now state.old (call_of e)) state.old result state.new }
 {
     if !are_meant(table, state) {
-        return event_refusal(EventAnswer::Refused(Refusal::IllFormed));
+        return event_refusal(Err(Refusal::IllFormed));
     }
     let changed = change(read_table(table), read_state(state), e);
     let answer = changed.answer;
@@ -78,21 +75,21 @@ pub fn event(table: &Numbers, state: &mut Numbers, e: Event) -> u64
     refusal
 }
 
-fn next_of(answer: ActionAnswer) -> Next
+fn next_of(answer: Result<Action, Refusal>) -> Next
     ensures { result ≡ next_of (action_answer answer) }
 {
     match answer {
-        ActionAnswer::Act(action) => {
-            let quiet = is_quiet(action);
+        Ok(action) => {
+            let quiet = action == Action::Quiet;
             Next {
                 refusal: 0,
                 quiet,
-                service: action_service(action),
-                action: action_number(action),
+                service: action.service(),
+                action: action.number(),
             }
         }
-        ActionAnswer::Refused(refusal) => Next {
-            refusal: refusal_number(refusal),
+        Err(refusal) => Next {
+            refusal: u64::from(refusal),
             quiet: false,
             service: 0,
             action: 0,
@@ -105,7 +102,7 @@ pub fn next_action(table: &Numbers, state: &mut Numbers) -> Next
     ensures { Called next_of (on table.now state.old next) state.old result state.new }
 {
     if !are_meant(table, state) {
-        return next_of(ActionAnswer::Refused(Refusal::IllFormed));
+        return next_of(Err(Refusal::IllFormed));
     }
     let stepped = engine::next_action(read_table(table), read_state(state));
     let answer = stepped.answer;
@@ -114,16 +111,16 @@ pub fn next_action(table: &Numbers, state: &mut Numbers) -> Next
     told
 }
 
-fn run_of(answer: RunAnswer) -> Run
+fn run_of(answer: Result<usize, Refusal>) -> Run
     ensures { result ≡ run_of (run_answer answer) }
 {
     match answer {
-        RunAnswer::Ran(count) => Run {
+        Ok(count) => Run {
             refusal: 0,
             count: count as u64,
         },
-        RunAnswer::Refused(refusal) => Run {
-            refusal: refusal_number(refusal),
+        Err(refusal) => Run {
+            refusal: u64::from(refusal),
             count: 0,
         },
     }
@@ -140,7 +137,7 @@ pub fn run_to_quiet(
     ensures written { Written (on table.now state.old (run services.old actions.old)) services.new actions.new }
 {
     if !are_meant(table, state) {
-        return run_of(RunAnswer::Refused(Refusal::IllFormed));
+        return run_of(Err(Refusal::IllFormed));
     }
     let ran = engine::run_to_quiet(read_table(table), read_state(state), services, actions);
     let answer = ran.answer;
@@ -149,16 +146,16 @@ pub fn run_to_quiet(
     told
 }
 
-fn asked_time(earliest: Deadline) -> Asked
+fn asked_time(earliest: Option<u64>) -> Asked
     ensures { result ≡ asked_of (told earliest) }
 {
     match earliest {
-        Deadline::None => Asked {
+        None => Asked {
             refusal: 0,
             timed: false,
             time: 0,
         },
-        Deadline::At(time) => Asked {
+        Some(time) => Asked {
             refusal: 0,
             timed: true,
             time,
@@ -166,13 +163,13 @@ fn asked_time(earliest: Deadline) -> Asked
     }
 }
 
-fn asked_of(answer: QueryAnswer) -> Asked
+fn asked_of(answer: Result<Option<u64>, Refusal>) -> Asked
     ensures { result ≡ asked_of (query_answer answer) }
 {
     match answer {
-        QueryAnswer::Earliest(earliest) => asked_time(earliest),
-        QueryAnswer::Refused(refusal) => Asked {
-            refusal: refusal_number(refusal),
+        Ok(earliest) => asked_time(earliest),
+        Err(refusal) => Asked {
+            refusal: u64::from(refusal),
             timed: false,
             time: 0,
         },
@@ -184,7 +181,7 @@ pub fn query(table: &Numbers, state: &Numbers) -> Asked
     ensures { result ≡ asked_of (on table.now state.now asking).answer }
 {
     if !are_meant(table, state) {
-        return asked_of(QueryAnswer::Refused(Refusal::IllFormed));
+        return asked_of(Err(Refusal::IllFormed));
     }
     asked_of(engine::query(read_table(table), read_state(state)))
 }

@@ -151,10 +151,8 @@ impl Action {
     {
         match self {
             Action::Quiet => 0,
-            Action::Moved(s)
-            | Action::Launch(s)
-            | Action::StopCommand(s)
-            | Action::Signal(s, _) => s as u64,
+            Action::Moved(s) | Action::Launch(s) | Action::StopCommand(s) | Action::Signal(s, _) =>
+                s as u64,
         }
     }
 
@@ -169,4 +167,23 @@ impl Action {
             Action::Signal(_, g) => 3 + u64::from(g),
         }
     }
+}
+
+// The same by name, for the crates that are not yet off them.
+pub fn kind_number(k: Kind) -> u64
+    ensures { result ≡ kind_number k }
+{
+    u64::from(k)
+}
+
+pub fn kind_at(n: u64) -> Kind
+    ensures { result ≡ kind_at n }
+{
+    Kind::from(n)
+}
+
+pub fn signal_at(n: u64) -> Signal
+    ensures { result ≡ signal_at n }
+{
+    Signal::from(n)
 }

@@ -8,7 +8,7 @@ use plain_encoding::Numbers;
 use scenario_lines::Command;
 use scenario_replies::load_reply;
 use scenario_services::{Buffer, Given, Positions, bare, lent_positions, take_positions};
-use service::{Refusal, refusal_number};
+use service::Refusal;
 
 pub(crate) type TokenBuffer = [u8; 65536];
 
@@ -41,7 +41,7 @@ fn load_given(
     }
     // No line asks for more.
     Load {
-        number: refusal_number(Refusal::NoRoom),
+        number: u64::from(Refusal::NoRoom),
         service: 0,
         line: 0,
         column: 0,

@@ -74,17 +74,6 @@ bounds-y-s-in-loop-k c =
 pub write_action-requires : goal.write_action-requires
 write_action-requires c = running_room c.loop-k.invariant c.requires.2 c.loop-k-test.true
 
-pub overflow_add-k : goal.overflow_add-k
-overflow_add-k c =
-    let few = c.requires.2.few in
-    let l = c.loop-k-test.true in
-    search rules
-
-pub loop-k-smaller : goal.loop-k-smaller
-loop-k-smaller c =
-    let l = c.loop-k-test.true in
-    search rules
-
 pub loop-k-preserved : goal.loop-k-preserved
 unfolding record_at with_record
 loop-k-preserved c =

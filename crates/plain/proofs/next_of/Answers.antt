@@ -2,8 +2,8 @@
 use Rattle.plain.proofs.Laws.{acted_as}
 use Rattle.plain.proofs.next_of.Goals as goal
 
-pub returns-in-Act : goal.returns-in-Act
-returns-in-Act c = acted_as c.in-Act.is c.is_quiet-quiet.ensures c.action_service.ensures c.action_number.ensures
+pub returns-in-Ok : goal.returns-in-Ok
+returns-in-Ok c = acted_as c.in-Ok.is (search rules) c.service.ensures c.number.ensures
 
-pub returns-in-Refused : goal.returns-in-Refused
-returns-in-Refused c = rw (c.in-Refused.is, c.refusal_number.ensures)
+pub returns-in-Err : goal.returns-in-Err
+returns-in-Err c = rw (c.in-Err.is, c.from.ensures)

@@ -11,7 +11,7 @@ pub returns-then-x-to : goal.returns-then-x-to
 unfolding outcome check
 returns-then-x-to c =
     simp (
-      c.refuse.ensures,
+      c.refused.ensures,
       lt-leb _ _ c.if-to-le-LAST_CLOCK.false,
       le-leb _ _ c.if-x-to.true,
       c.if-is_formed.true,
@@ -20,8 +20,8 @@ returns-then-x-to c =
 
 pub returns-then-is_formed : goal.returns-then-is_formed
 unfolding outcome check
-returns-then-is_formed c = simp (c.refuse-then-is_formed.ensures, lt-leb _ _ c.if-x-to.false, c.if-is_formed.true, ← c.is_formed.ensures)
+returns-then-is_formed c = simp (c.refused-then-is_formed.ensures, lt-leb _ _ c.if-x-to.false, c.if-is_formed.true, ← c.is_formed.ensures)
 
 pub returns : goal.returns
 unfolding outcome check
-returns c = simp (c.refuse-2.ensures, c.if-is_formed.false, ← c.is_formed.ensures)
+returns c = simp (c.refused-2.ensures, c.if-is_formed.false, ← c.is_formed.ensures)

@@ -27,7 +27,7 @@ pub returns-then-s-t : goal.returns-then-s-t
 unfolding outcome check record_at
 returns-then-s-t c =
     simp (
-      c.refuse.ensures,
+      c.refused.ensures,
       c.if-r.false,
       lt-ltb _ _ c.if-s-t.true,
       c.if-is_formed.true,
@@ -36,11 +36,11 @@ returns-then-s-t c =
 
 pub returns-then-is_formed : goal.returns-then-is_formed
 unfolding outcome check
-returns-then-is_formed c = simp (c.refuse-then-is_formed.ensures, le-ltb _ _ c.if-s-t.false, c.if-is_formed.true, ← c.is_formed.ensures)
+returns-then-is_formed c = simp (c.refused-then-is_formed.ensures, le-ltb _ _ c.if-s-t.false, c.if-is_formed.true, ← c.is_formed.ensures)
 
 pub returns : goal.returns
 unfolding outcome check
-returns c = simp (c.refuse-2.ensures, c.if-is_formed.false, ← c.is_formed.ensures)
+returns c = simp (c.refused-2.ensures, c.if-is_formed.false, ← c.is_formed.ensures)
 
 pub offset_bounds-t-s : goal.offset_bounds-t-s
 offset_bounds-t-s c = let h = formed_few _ _ _ c.is_formed.ensures c.if-is_formed.true in search rules

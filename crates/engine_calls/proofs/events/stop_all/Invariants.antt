@@ -1,10 +1,6 @@
-use Prim.Native.Nat.{◌-◌}
 use Rattle.rules.specs.Events.{stopped}
 use Rattle.engine_calls.proofs.Accepted.{Changing}
 use Rattle.engine_calls.proofs.events.stop_all.Given as goal
 
 abbrev pub invariant-loop-k : goal.invariant-loop-k
-invariant-loop-k l = Changing (λ j r. stopped r) l.t l.initial.x l.x l.k
-
-abbrev pub decreases-loop-k : goal.decreases-loop-k
-decreases-loop-k l = l.t.count - l.k
+invariant-loop-k l = Changing (λ j r. stopped r) l.fn.t l.initial.x l.x l.k

@@ -1,11 +1,8 @@
--- `is_due` meets its contract: each case by its own arm.
+-- `is_due` meets its contract: by what the closure gives of a deadline.
+use Rattle.std.proofs.Common.{rules}
 use Rattle.rules.specs.Rules.{due}
 use Rattle.engine_choice.proofs.standing.is_due.Goals as goal
 
-pub returns-in-None : goal.returns-in-None
+pub returns : goal.returns
 unfolding due
-returns-in-None c = rw c.in-None.is
-
-pub returns-in-At : goal.returns-in-At
-unfolding due
-returns-in-At c = rw c.in-At.is
+returns c = search rules

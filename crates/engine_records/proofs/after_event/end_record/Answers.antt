@@ -1,15 +1,16 @@
 -- `end_record` meets its contract: each phase by its own arm.
 use Rattle.engine_records.specs.Sound.{sound}
+use Rattle.std.proofs.Common.{inl, inr}
 use Rattle.rules.specs.Events.{ended_as}
 use Rattle.engine_records.proofs.after_event.end_record.Goals as goal
 
 pub returns-in-Down : goal.returns-in-Down
 unfolding ended_as
-returns-in-Down c = simp (c.in-Down.is, c.dead_record-d.ensures, c.if-is_sound.true, ← c.is_sound.ensures)
-
-pub returns-in-Waiting : goal.returns-in-Waiting
-unfolding ended_as
-returns-in-Waiting c = simp (c.in-Waiting.is, c.dead_record-d.ensures, c.if-is_sound.true, ← c.is_sound.ensures)
+returns-in-Down c =
+    elim c.in-Down.is [
+      | inl e ↦ simp (e, c.dead_record-d.ensures, c.if-is_sound.true, ← c.is_sound.ensures)
+      | inr e ↦ simp (e, c.dead_record-d.ensures, c.if-is_sound.true, ← c.is_sound.ensures)
+    ]
 
 pub returns-then-brings_up : goal.returns-then-brings_up
 unfolding ended_as
