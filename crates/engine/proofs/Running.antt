@@ -126,15 +126,16 @@ module _ {t : Table} {x : State} {s a : List ℕ} {m : ℕ} where
               e ∙ ap (next_action t) same;
         }
 
-    pub running_all : m ≤ k → Advanced t x m s a (record { last = last; count = k; state = y }) s' a'
+    pub running_all : m ≤ k → Advanced t x m s a (record { last = last; count = m; state = y }) s' a'
     unfolding state_after action_after last_after
     running_all l =
         let w = h.passed.within in
+        let e : m ≡ k = omega arith in
         record {
-          count = passed_all h.passed l;
-          state = h.state;
-          services = h.services;
-          actions = h.actions;
+          count = e ∙ passed_all h.passed l;
+          state = rw e h.state;
+          services = rw e h.services;
+          actions = rw e h.actions;
           single = λ one.
               let all : k ≡ 1 = omega arith in
               rw (h.newest, h.state, all);

@@ -17,4 +17,4 @@ returns-then-is_formed c = search next_done
 
 pub returns : goal.returns
 unfolding outcome check
-returns c = simp (c.if-is_formed.false, ← c.is_formed.ensures)
+returns c = simp (c.refused.ensures, c.if-is_formed.false, ← c.is_formed.ensures)

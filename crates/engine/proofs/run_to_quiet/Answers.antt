@@ -42,21 +42,21 @@ unfolding outcome check
 returns-then-room-services c =
     record {
       actions_after = simp (
-        c.refuse_run.ensures,
+        c.refused.ensures,
         lt-leb _ _ c.if-room-actions.false,
         le-leb _ _ c.if-room-services.true,
         c.if-is_formed.true,
         ← c.is_formed.ensures,
       );
-      result_value = rw c.refuse_run.ensures;
+      result_value = rw c.refused.ensures;
     }
 
 pub returns-then-is_formed : goal.returns-then-is_formed
 unfolding outcome check
 returns-then-is_formed c =
-    record { actions_after = simp (c.refuse_run-then-is_formed.ensures, lt-leb _ _ c.if-room-services.false, c.if-is_formed.true, ← c.is_formed.ensures); result_value = rw c.refuse_run-then-is_formed.ensures }
+    record { actions_after = simp (c.refused-then-is_formed.ensures, lt-leb _ _ c.if-room-services.false, c.if-is_formed.true, ← c.is_formed.ensures); result_value = rw c.refused-then-is_formed.ensures }
 
 pub returns : goal.returns
 unfolding outcome check
 returns c =
-    record { actions_after = simp (c.refuse_run-2.ensures, c.if-is_formed.false, ← c.is_formed.ensures); result_value = rw c.refuse_run-2.ensures }
+    record { actions_after = simp (c.refused-2.ensures, c.if-is_formed.false, ← c.is_formed.ensures); result_value = rw c.refused-2.ensures }
