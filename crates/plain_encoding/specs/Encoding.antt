@@ -3,8 +3,7 @@ use Rattle.std.specs.Prelude.{ℕ, Bool, List, ◌≡◌, length, refl, replicat
 use Rattle.base.specs.Folds.{every, fold}
 use Rattle.service.specs.Limits.{max_services}
 use Rattle.service.specs.Numbers.{flag_number, settings_from, settings_numbers}
-use Rattle.service.specs.declared.Deadline.{Deadline}
-use Rattle.service.specs.declared.Deadline.TheVariants.{None as NoDeadline, At}
+use Rattle.std.specs.Prelude.{Option, Some, None}
 use Rattle.service.specs.declared.Record.{Record}
 use Rattle.service.proofs.Numbering.{cause_back, flag_back, phase_back, settings_back}
 use Rattle.plain_encoding.specs.Meaning.{stand_as}
@@ -30,9 +29,9 @@ all_stand encoded decoded l = every (λ s. stand_as l (place_of s) (encoded (dec
 
 -- ---- the laws of records and of settings
 
-deadline_back : (d : Deadline) → deadline_of (flag_number (timed d)) (time_of d) ≡ d
-deadline_back NoDeadline = refl
-deadline_back (At d) = refl
+deadline_back : (d : Option ℕ) → deadline_of (flag_number (timed d)) (time_of d) ≡ d
+deadline_back None = refl
+deadline_back (Some d) = refl
 
 record_back : (r : Record) → record_from (record_numbers r) 0 ≡ r
 unfolding record_from

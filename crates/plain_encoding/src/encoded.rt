@@ -1,42 +1,19 @@
 // What has a place among the numbers: a record of the state, or the settings of a service. One loop writes all places, and one reads them.
 ghost use Rattle.std.specs.Prelude.{◌≡◌, ◌+◌, ◌≤◌, ℕ, List, get_or};
 ghost use Rattle.service.specs.Numbers.{settings_from, settings_numbers};
-ghost use Rattle.plain_encoding.specs.Values.{timed, time_of, deadline_of};
+ghost use Rattle.plain_encoding.specs.Values.{deadline_of};
 ghost use Rattle.plain_encoding.specs.Encoding.{EncodingLaws, all_read, all_written, record_laws, settings_laws};
 ghost use Rattle.plain_encoding.specs.Numbers.{all_numbers, per_place, placed, record_from, record_numbers};
 
 use crate::{EACH, FRONT, Numbers};
-use service::{
-    Deadline, MAX_SERVICES, Record, Settings, cause_at, cause_number, kind_at, kind_number,
-    phase_at, phase_number, signal_at, signal_number,
-};
+use service::{Cause, Kind, MAX_SERVICES, Phase, Record, Settings, Signal};
 use std::array;
 
-fn is_timed(d: Deadline) -> bool
-    ensures { result ≡ timed d }
-{
-    match d {
-        Deadline::None => false,
-        Deadline::At(_) => true,
-    }
-}
-
-fn time_of(d: Deadline) -> u64
-    ensures { result ≡ time_of d }
-{
-    match d {
-        Deadline::None => 0,
-        Deadline::At(time) => time,
-    }
-}
-
-fn deadline_of(n: u64, time: u64) -> Deadline
+// The deadline that two numbers say: whether there is one, and its time.
+fn deadline_of(n: u64, time: u64) -> Option<u64>
     ensures { result ≡ deadline_of n time }
 {
-    if n == 1 {
-        return Deadline::At(time);
-    }
-    Deadline::None
+    if n == 1 { Some(time) } else { None }
 }
 
 pub(crate) trait Encoded: Copy {
@@ -65,13 +42,13 @@ impl Encoded for Record {
 
     fn encode(self) -> [u64; EACH] {
         [
-            phase_number(self.phase),
+            u64::from(self.phase),
             u64::from(self.wanted),
             u64::from(self.aside),
             u64::from(self.live),
-            cause_number(self.cause),
-            u64::from(is_timed(self.deadline)),
-            time_of(self.deadline),
+            u64::from(self.cause),
+            u64::from(self.deadline.is_some()),
+            self.deadline.unwrap_or(0),
             u64::from(self.killed),
             self.not_before,
             self.last_launch,
@@ -86,11 +63,11 @@ impl Encoded for Record {
 
     fn decode(numbers: &Numbers, at: usize) -> Record {
         Record {
-            phase: phase_at(numbers[at]),
+            phase: Phase::from(numbers[at]),
             wanted: numbers[at + 1] == 1,
             aside: numbers[at + 2] == 1,
             live: numbers[at + 3] == 1,
-            cause: cause_at(numbers[at + 4]),
+            cause: Cause::from(numbers[at + 4]),
             deadline: deadline_of(numbers[at + 5], numbers[at + 6]),
             killed: numbers[at + 7] == 1,
             not_before: numbers[at + 8],
@@ -110,14 +87,14 @@ impl Encoded for Settings {
 
     fn encode(self) -> [u64; EACH] {
         [
-            kind_number(self.kind),
+            u64::from(self.kind),
             u64::from(self.restart),
             self.delay,
             self.interval,
             self.limit,
             self.start_timeout,
             self.stop_timeout,
-            signal_number(self.signal),
+            u64::from(self.signal),
             self.hard,
             self.milestone,
             self.soft,
@@ -131,14 +108,14 @@ impl Encoded for Settings {
 
     fn decode(numbers: &Numbers, at: usize) -> Settings {
         Settings {
-            kind: kind_at(numbers[at]),
+            kind: Kind::from(numbers[at]),
             restart: numbers[at + 1] == 1,
             delay: numbers[at + 2],
             interval: numbers[at + 3],
             limit: numbers[at + 4],
             start_timeout: numbers[at + 5],
             stop_timeout: numbers[at + 6],
-            signal: signal_at(numbers[at + 7]),
+            signal: Signal::from(numbers[at + 7]),
             hard: numbers[at + 8],
             milestone: numbers[at + 9],
             soft: numbers[at + 10],
