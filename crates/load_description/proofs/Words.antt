@@ -8,6 +8,7 @@ use lib.ListN.{length}
 use Rattle.service.specs.declared.Kind.{Kind as ServiceKind}
 use Rattle.service.specs.declared.Settings.{Settings as ServiceSettings}
 use Rattle.load_text.specs.Lines.{fault}
+use Rattle.load_text.specs.declared.Wrong.TheVariants.{OutsideRule}
 use Rattle.load_value.specs.Values.{word_room}
 use Rattle.load_value.specs.declared.Sizes.{Sizes}
 use Rattle.load_value.proofs.Scans.{word_fits}
@@ -57,10 +58,10 @@ module _ {A : Type 0} (f : A → Effect) {R : A → Effect → Type 0} (each : (
       by (Some y) h = ap (λ (z : Effect). Some z) (each x y h)
 
 -- a type and settings by the word that is read, or outside the rule
-pub kind_told : (seen : ℕ) (o : Option ServiceKind) → ok_or (option_map (λ k. EffectKind k) o) (fault 11 seen) ≡ kind_read seen o
+pub kind_told : (seen : ℕ) (o : Option ServiceKind) → ok_or (option_map (λ k. EffectKind k) o) (fault OutsideRule seen) ≡ kind_read seen o
 kind_told seen None = refl
 kind_told seen (Some k) = refl
 
-pub setting_told : (seen : ℕ) (o : Option ServiceSettings) → ok_or (option_map (λ v. EffectSettings v) o) (fault 11 seen) ≡ setting_read seen o
+pub setting_told : (seen : ℕ) (o : Option ServiceSettings) → ok_or (option_map (λ v. EffectSettings v) o) (fault OutsideRule seen) ≡ setting_read seen o
 setting_told seen None = refl
 setting_told seen (Some v) = refl

@@ -4,7 +4,8 @@ use Prim.Native.String.{String}
 use Rattle.base.specs.Folds.{some}
 use Rattle.load_text.specs.Strings.{bytes, same, index_from, part_of}
 use Rattle.load_text.specs.Bytes.{run}
-use Rattle.load_text.specs.Lines.{line_of, lines_of, bad_from, line_from, line_number, column_from, column_number, opening, fault}
+use Rattle.load_text.specs.Lines.{line_of, lines_of, bad_from, line_from, line_number, column_from, column_number, opening}
+use Rattle.load_text.specs.Numbers.{wrong_number}
 use Rattle.load_text.specs.declared.Fault.{Fault}
 use Rattle.load_value.specs.Steps.{step_of, bare_step}
 use Rattle.load_value.specs.Values.{fault_from, marks_from, sizes_from, scan_of, written, leading, word_of}
@@ -17,27 +18,32 @@ use Rattle.load_description.specs.Settings.{value_at, word_at, known}
 use Rattle.load_description.specs.Lines.{dependency_read, word_read, tokens_read, property_read, line_read}
 use Rattle.load_description.specs.Texts.{completion, lines_read, text_read}
 
+-- a refusal by its number and the offset of the byte that decided it
+pub record Told : Type 0 where
+  pub number : ℕ
+  pub at : ℕ
+
 -- a text with the verdict on it, and the line and the column of the offset in it
 pub record Example : Type 0 where
   pub text : String
-  pub verdict : Result (Unit {0}) Fault
+  pub verdict : Result (Unit {0}) Told
   pub line : ℕ
   pub column : ℕ
 
 pub record Outcome : Type 0 where
-  pub verdict : Result (Unit {0}) Fault
+  pub verdict : Result (Unit {0}) Told
   pub line : ℕ
   pub column : ℕ
 
-abbrev good : Result (Unit {0}) Fault
+abbrev good : Result (Unit {0}) Told
 good = Ok tt
 
-abbrev offset : Result (Unit {0}) Fault → ℕ
+abbrev offset : Result (Unit {0}) Told → ℕ
 offset (Ok u) = 0
 offset (Err f) = f.at
 
-abbrev refused : ℕ → ℕ → Result (Unit {0}) Fault
-refused n i = Err (fault n i)
+abbrev refused : ℕ → ℕ → Result (Unit {0}) Told
+refused n i = Err (record { number = n; at = i })
 
 abbrev pub examples : List Example
 examples =
@@ -90,9 +96,9 @@ examples =
     record { text = "depends-on=a\ndepends-on=b\ndepends-on=c\ndepends-on=d\ndepends-on=e\ndepends-on=f\ndepends-on=g\ndepends-on=h\ndepends-on=i\ndepends-on=j\ndepends-on=k\ndepends-on=l\nwaits-for=a\nwaits-for=b\nwaits-for=c\nwaits-for=d\ndepends-on=\"a\"\nwaits-for= e\n"; verdict = refused 12 230; line = 18; column = 12 } ∷
     []
 
-abbrev verdict_of : Result Description Fault → Result (Unit {0}) Fault
+abbrev verdict_of : Result Description Fault → Result (Unit {0}) Told
 verdict_of (Ok d) = good
-verdict_of (Err f) = Err f
+verdict_of (Err f) = Err (record { number = wrong_number f.wrong; at = f.at })
 
 abbrev outcome : Example → Outcome
 outcome e =

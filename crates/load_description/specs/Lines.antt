@@ -5,6 +5,7 @@ use Rattle.load_text.specs.Strings.{part_of}
 use Rattle.load_text.specs.Lines.{fault, opening, white_end}
 use Rattle.load_text.specs.declared.Fault.{Fault}
 use Rattle.load_text.specs.declared.Places.{Places}
+use Rattle.load_text.specs.declared.Wrong.TheVariants.{OutsideRule, TooManyDependencies, UnknownProperty}
 use Rattle.load_value.specs.Values.{scan_of, is_command, is_word, word_of}
 use Rattle.load_value.specs.declared.Sizes.{Sizes}
 use Rattle.service.specs.declared.Kind.{Kind as ServiceKind}
@@ -25,13 +26,13 @@ use Rattle.load_description.specs.Settings.{max_dependencies, known}
 
 -- 11: "value outside its property's rule (a dependency's name as in 3)"
 abbrev pub outside : ℕ → Result Effect Fault
-outside seen = Err (fault 11 seen)
+outside seen = Err (fault OutsideRule seen)
 
 -- a dependency on w: 12 "a 17th dependency of one service"
 unfoldable pub dependency_read : List ℕ → Description → LinkName → ℕ → ℕ → List ℕ → Result Effect Fault
 dependency_read text d l at seen w =
     pick (known text d l w) (Ok Nothing)
-    (pick (ltb d.count max_dependencies) (Ok (Dependency l at)) (Err (fault 12 seen)))
+    (pick (ltb d.count max_dependencies) (Ok (Dependency l at)) (Err (fault TooManyDependencies seen)))
 
 abbrev pub kind_read : ℕ → Option ServiceKind → Result Effect Fault
 kind_read seen (Some k) = Ok (Kind k)
@@ -66,19 +67,19 @@ tokens_read text d Unknown at seen z value = single_read text d Unknown at seen 
 
 abbrev pub scan_read : List ℕ → Description → Property → ℕ → ℕ → Result Sizes Fault → List ℕ → Result Effect Fault
 scan_read text d p at seen (Ok z) value = tokens_read text d p at seen z value
-scan_read text d p at seen (Err f) value = Err (fault f.number (at + f.at))
+scan_read text d p at seen (Err f) value = Err (fault f.wrong (at + f.at))
 
 -- 10: "unknown property", decided by the name's first byte
 unfoldable pub property_read : List ℕ → Description → ℕ → List ℕ → Places → Property → Result Effect Fault
 property_read text d from l s p =
-    pick (is_unknown p) (Err (fault 10 (from + s.from)))
+    pick (is_unknown p) (Err (fault UnknownProperty (from + s.from)))
     (scan_read text d p (from + s.value) (from + white_end l s.value) (scan_of (drop s.value l)) (drop s.value l))
 
 -- a line that names nothing says nothing
 abbrev pub opening_read : List ℕ → Description → ℕ → List ℕ → Result (Option Places) Fault → Result Effect Fault
 opening_read text d from l (Ok None) = Ok Nothing
 opening_read text d from l (Ok (Some s)) = property_read text d from l s (property_of (part_of l s.from s.end))
-opening_read text d from l (Err f) = Err (fault f.number (from + f.at))
+opening_read text d from l (Err f) = Err (fault f.wrong (from + f.at))
 
 -- the line l, which begins at the offset `from` of the text, after lines that made the settings d
 unfoldable pub line_read : List ℕ → Description → ℕ → List ℕ → Result Effect Fault

@@ -5,6 +5,7 @@ use Rattle.service.specs.declared.Kind.{Kind}
 use Rattle.service.specs.declared.Kind.TheVariants.{Internal, Process, Scripted}
 use Rattle.load_text.specs.Lines.{fault, lines_of, bad_from}
 use Rattle.load_text.specs.declared.Fault.{Fault}
+use Rattle.load_text.specs.declared.Wrong.TheVariants.{NoCommand, NoType}
 use Rattle.load_description.specs.declared.Description.{Description}
 use Rattle.load_description.specs.declared.Effect.{Effect}
 use Rattle.load_description.specs.Settings.{blank, affected}
@@ -24,8 +25,8 @@ needs_command Internal = false
 -- 13 / 14: "no type / process or scripted without command"; they have no byte that decides
 unfoldable pub completion : Description → Result (Unit {0}) Fault
 completion d =
-    pick (not d.typed) (Err (fault 13 0))
-    (pick (needs_command d.settings.kind && is_none d.kept.command) (Err (fault 14 0)) (Ok tt))
+    pick (not d.typed) (Err (fault NoType 0))
+    (pick (needs_command d.settings.kind && is_none d.kept.command) (Err (fault NoCommand 0)) (Ok tt))
 
 -- what is read, if a check of it is good
 abbrev pub checked : Result (Unit {0}) Fault → Result Description Fault → Result Description Fault

@@ -3,13 +3,14 @@
 
 ghost use Rattle.std.specs.Prelude.{◌≡◌, ◌≤◌};
 ghost use Rattle.load_text.specs.Lines.{fault};
+ghost use Rattle.load_text.specs.declared.Wrong.TheVariants.{OutsideRule};
 ghost use Rattle.load_value.specs.Stores.{Puts};
 ghost use Rattle.load_value.specs.Values.{is_word};
 ghost use Rattle.load_description.specs.Settings.{blank, value_at, word_at, max_dependencies, taken_of, is_dependency, known};
 ghost use Rattle.load_description.specs.Lines.{command_read, dependency_read, word_read, tokens_read};
 ghost use Rattle.load_description.specs.Texts.{needs_command, completion};
 
-use load_text::{Fault, line_end, part, same_bytes};
+use load_text::{Fault, Wrong, line_end, part, same_bytes};
 use load_value::{LONGEST_WORD, Sizes, WORD_ROOM, write_word};
 use load_word::{Command, Link, Property, is_name, read_kind, read_setting};
 use service::{Kind, Settings};
@@ -62,10 +63,10 @@ pub struct Start {
 impl Start {
     // A value outside its property's rule.
     fn outside(self) -> Fault
-        ensures { result ≡ fault 11 self.seen }
+        ensures { result ≡ fault OutsideRule self.seen }
     {
         Fault {
-            number: 11,
+            wrong: Wrong::OutsideRule,
             at: self.seen,
         }
     }
@@ -131,7 +132,7 @@ impl Description {
             return Ok(Effect::Dependency(link, start.at));
         }
         Err(Fault {
-            number: 12,
+            wrong: Wrong::TooManyDependencies,
             at: start.seen,
         })
     }
@@ -191,10 +192,16 @@ impl Description {
         ensures { result ≡ completion self.now }
     {
         if !self.typed {
-            return Err(Fault { number: 13, at: 0 });
+            return Err(Fault {
+                wrong: Wrong::NoType,
+                at: 0,
+            });
         }
         if needs_command(self.settings.kind) && self.kept.command.is_none() {
-            return Err(Fault { number: 14, at: 0 });
+            return Err(Fault {
+                wrong: Wrong::NoCommand,
+                at: 0,
+            });
         }
         Ok(())
     }

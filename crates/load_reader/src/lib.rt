@@ -9,7 +9,7 @@ ghost use Rattle.load_description.specs.Lines.{property_read, line_read};
 ghost use Rattle.load_description.specs.Texts.{lines_read, text_read};
 
 use load_description::{Dependency, Description, Effect, MAX_DEPENDENCIES, Start};
-use load_text::{Fault, Places, first_bad, line_end, opening_of, part, tail, white_end};
+use load_text::{Fault, Places, Wrong, first_bad, line_end, opening_of, part, tail, white_end};
 use load_value::scan_value;
 use load_word::{Command, Property, find_property, with_kind};
 
@@ -62,7 +62,7 @@ fn read_property(
 {
     if matches!(p, Property::Unknown) {
         return Err(Fault {
-            number: 10,
+            wrong: Wrong::UnknownProperty,
             at: from + s.from,
         });
     }
