@@ -1,8 +1,7 @@
 -- Trusted: deadlines by number, and back.
-use Rattle.std.specs.Prelude.{ℕ, Bool, true, false}
+use Rattle.std.specs.Prelude.{ℕ, Bool, true, false, Option, Some, None}
 use Rattle.base.specs.Folds.{pick}
 use Rattle.service.specs.Numbers.{flag_of}
-use Rattle.std.specs.Prelude.{Option, Some, None}
 
 -- a deadline is two numbers: whether there is one, and its time
 abbrev pub timed : Option ℕ → Bool

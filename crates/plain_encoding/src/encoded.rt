@@ -1,20 +1,12 @@
 // What has a place among the numbers: a record of the state, or the settings of a service. One loop writes all places, and one reads them.
 ghost use Rattle.std.specs.Prelude.{◌≡◌, ◌+◌, ◌≤◌, ℕ, List, get_or};
 ghost use Rattle.service.specs.Numbers.{settings_from, settings_numbers};
-ghost use Rattle.plain_encoding.specs.Values.{deadline_of};
 ghost use Rattle.plain_encoding.specs.Encoding.{EncodingLaws, all_read, all_written, record_laws, settings_laws};
 ghost use Rattle.plain_encoding.specs.Numbers.{all_numbers, per_place, placed, record_from, record_numbers};
 
 use crate::{EACH, FRONT, Numbers};
 use service::{Cause, Kind, MAX_SERVICES, Phase, Record, Settings, Signal};
 use std::array;
-
-// The deadline that two numbers say: whether there is one, and its time.
-fn deadline_of(n: u64, time: u64) -> Option<u64>
-    ensures { result ≡ deadline_of n time }
-{
-    if n == 1 { Some(time) } else { None }
-}
 
 pub(crate) trait Encoded: Copy {
     ghost encoded: { Self → List ℕ };
@@ -68,7 +60,7 @@ impl Encoded for Record {
             aside: numbers[at + 2] == 1,
             live: numbers[at + 3] == 1,
             cause: Cause::from(numbers[at + 4]),
-            deadline: deadline_of(numbers[at + 5], numbers[at + 6]),
+            deadline: (numbers[at + 5] == 1).then_some(numbers[at + 6]),
             killed: numbers[at + 7] == 1,
             not_before: numbers[at + 8],
             last_launch: numbers[at + 9],
