@@ -378,7 +378,7 @@ class Check:
             for name, public, start, end in self.tree.functions(path):
                 if public and re.search(r'(?m)^\s*requires\b', text[start:end]):
                     self.fault(path, f'{name} is public and has a precondition')
-                if public and not re.search(r'(?m)^\s*ensures\b', text[start:end]):
+                if public and not re.search(r'(?m)^\s*(?:ensures\b|ghost \w+ = \{)', text[start:end]):
                     self.fault(path, f'{name} is public and has no contract')
 
     def host(self):

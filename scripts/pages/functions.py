@@ -92,7 +92,7 @@ def cited(tree, text, part):
     for crate, group in BROUGHT_IN.findall(text):
         if crate in tree.crates:
             names += [item.split(' as ')[-1].strip() for item in group.split(',')]
-    said = ' '.join(clauses(part, 'ensures'))
+    said = ' '.join(clauses(part, 'ensures') + clauses(part, r'ghost \w+'))
     return [n for n in dict.fromkeys(names) if re.search(r"(?<![\w'])" + re.escape(n) + r"(?![\w'])", said)]
 
 

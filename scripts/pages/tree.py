@@ -30,7 +30,9 @@ VISIBLE = r'(?:pub(?:\([^)]*\))? )?'
 FUNCTION = re.compile(r'(?m)^[ \t]*(pub )?(?:pub\([^)]*\) )?(?:const )?(?:extern "C" )?fn (\w+)')
 # The parameters of a type or of an impl, one pair of brackets in another at most; and the type of an impl, which may be one of a trait for it.
 PARAMETERS = r'(?:<(?:[^<>]|<[^<>]*>)*>)?'
-IMPL = re.compile(r'(?m)^impl' + PARAMETERS + r' (?:[^{;]*? for )?(?:\w+::)*(\w+)')
+IMPL = re.compile(r'(?m)^impl' + PARAMETERS + r' (?:((?:\w+::)*(\w+)' + PARAMETERS + r') for )?(?:\w+::)*(\w+)')
+# The traits of the standard library whose functions are as public as the type. What theirs promise is a law that the impl gives by name.
+PUBLIC = {'From', 'TryFrom', 'Default', 'Display', 'Index', 'IndexMut', 'Deref'}
 DECLARED = re.compile(r'(?m)^' + VISIBLE + r'(?:(struct|enum) (\w+)(' + PARAMETERS + r')\s*([{(])|type (\w+' + PARAMETERS + r') = ((?:\[[^\]]*\]|[^;\[])*);)')
 CLOSED = {'{': '}', '(': ')'}
 
@@ -153,7 +155,10 @@ class Tree:
         functions, types, inside = {}, {}, {}
         for crate, path in self.library_sources():
             for name, public, start, _ in self.functions(path):
-                if public:
+                _, of_trait, of = name.partition(' for ')
+                if public and of_trait:
+                    functions[f'{of}::{FUNCTION.search(self.bare(path), start).group(2)}'] = name
+                elif public:
                     functions[name if '::' in name else f'{crate}::{name}'] = self.signature(path, start)
             for name, words in self.types(path):
                 types[f'{crate}::{name}'] = words
@@ -165,13 +170,20 @@ class Tree:
         return functions, types, inside
 
     def functions(self, path):
-        """Each function of a source file as (name, its type before it; public; where it begins; where the next begins)."""
+        """Each function of a source file as (name, its type before it; public; where it begins; where the next begins). The first function of an
+        impl of a public trait begins with the impl, and has its words as its name."""
         text = self.bare(path)
-        homes = [(m.group(1), m.start(), text.find('\n}', m.start())) for m in IMPL.finditer(text)]
-        found = list(FUNCTION.finditer(text))
-        for k, m in enumerate(found):
-            home = next((name + '::' for name, start, end in homes if start < m.start() < end), '')
-            yield home + m.group(2), bool(m.group(1)), m.start(), found[k + 1].start() if k + 1 < len(found) else len(text)
+        homes = [(m.group(3), m.group(1), m.group(2) in PUBLIC, m.start(), text.find('\n}', m.start())) for m in IMPL.finditer(text)]
+        met, found = set(), []
+        for m in FUNCTION.finditer(text):
+            name, trait, public, start, _ = next((home for home in homes if home[3] < m.start() < home[4]), ('', None, False, 0, 0))
+            if public and start not in met:
+                met.add(start)
+                found.append((f'{trait} for {name}', True, start))
+            else:
+                found.append((f'{name}::{m.group(2)}' if name else m.group(2), bool(m.group(1)), m.start()))
+        for k, (name, public, start) in enumerate(found):
+            yield name, public, start, found[k + 1][2] if k + 1 < len(found) else len(text)
 
     def signature(self, path, start):
         """The name, parameters and result of the function that begins there, in one line, as a caller sees them."""
