@@ -94,6 +94,8 @@ class Function:
     def __init__(self, file, m):
         text = file.bare
         self.file, self.name, self.at = file, m.group(2), m.start(2)
+        # The trait that it is a part of, where it stands in an impl of one.
+        self.trait = next((t for t, start, end in file.impls if start < self.at < end), "")
         k = m.end()
         if text[k : k + 1] == "<":
             depth = 0
@@ -133,6 +135,8 @@ class File:
             self.text = it.read()
         self.bare = blank(self.text)
         self.lines = self.text.split("\n")
+        self.impls = [(m.group(1) or "", m.start(), closing(self.bare, m.end() - 1))
+                      for m in re.finditer(r"(?m)^impl(?:<[^{]*?>)? (?:([A-Z]\w*)[^{;]*? for )?[^{;]*\{", self.bare)]
         self.functions = [Function(self, m) for m in re.finditer(r"(?m)^[ \t]*(pub(?:\([^)]*\))? )?(?:const )?(?:extern \"C\" )?fn (\w+)", self.bare)]
         self.types = []
         for m in re.finditer(r"(?m)^[ \t]*(?:pub(?:\([^)]*\))? )?(struct|enum) (\w+)[^;{(]*\{", self.bare):
@@ -187,7 +191,7 @@ class Places:
                 self.add(1, file, at, "an enum like Option or Result")
             elif len(cases) == 2 and len(full) == 2 and FAULTS & set(full):
                 self.add(1, file, at, "an enum like Result")
-            elif NONE & set(bare) or FAULTS & set(full):
+            elif (NONE if full else NONE - FAULTS | {"Unknown", "Off"}) & set(bare) or FAULTS & set(full):
                 self.add(1, file, at, "an enum with a case for none or a fault")
         for file in self.files:
             for kind, name, at, inside in file.types:
@@ -224,7 +228,7 @@ class Places:
         return out
 
     def numbering(self, f):
-        arms = self.arms(f)
+        arms = self.arms(f) if f.trait not in ("From", "TryFrom") else []
         number = [a for a in arms if re.fullmatch(r"\d+|[A-Z][A-Z_0-9]+", a[1])]
         back = [a for a in arms if re.fullmatch(r"\d+(?: \| \d+)*|_", a[0]) and re.match(r"[A-Z]\w+(?:::|$)", a[1])]
         return len(arms) > 2 and (len(number) >= len(arms) - 1 and not re.match(r"\d", arms[0][0]) or len(back) == len(arms))
@@ -241,7 +245,7 @@ class Places:
             last = int(m.group(2)) if m else None
         listed = [p[2] for p in self.found if p[1] == file.path and p[3].startswith("a struct with")]
         texts = "|\\btext: usize" if any(p[1] == file.path and p[3] == "constants that number kinds" for p in self.found) else ""
-        for m in re.finditer(rf"(?<!mut )(?:\bnumber: u8|\bverb: usize|\brefusal: u64{texts})\b", file.bare):
+        for m in re.finditer(rf"(?<!mut )(?:\bnumber: u8|\bverb: usize|\brefusal: u64{texts})\b(?!::)", file.bare):
             # The field that a struct is listed for stands in a line soon after.
             if not any(line < file.line(m.start()) <= line + 3 for line in listed):
                 self.add(1, file, m.start(), "a number for a kind or a refusal")
@@ -293,7 +297,8 @@ class Places:
         for file in self.files:
             for kind, name, at, inside in file.types:
                 bare = [re.sub(r"pub(?:\([^)]*\))? ", "", p) for p in inside]
-                if kind == "struct" and len(bare) > 1:
+                # A type with parameters is what others may go into.
+                if kind == "struct" and len(bare) > 1 and not file.bare.startswith("<", at + len(name)):
                     fields = [p.split(":")[0].strip() for p in bare]
                     groups["answer", len(fields)].append((file, name, at)) if fields[0] == "answer" else groups[tuple(fields)].append((file, name, at))
                 elif kind == "enum" and any("(" in p for p in bare):
@@ -305,7 +310,7 @@ class Places:
 
     def tabled(self, f):
         """A match to true and false, or to numbers: point 1 and point 4 have these."""
-        return self.numbering(f) or len(self.arms(f)) > 1 and all(v in ("true", "false") for _, v in self.arms(f))
+        return f.trait in ("From", "TryFrom") or self.numbering(f) or len(self.arms(f)) > 1 and all(v in ("true", "false") for _, v in self.arms(f))
 
     def twin(self, f, g, rule):
         self.add(2, f.file, f.at, rule, f"{f.name} ~ {g.name} of {g.file.path}:{g.file.line(g.at)}")
@@ -354,9 +359,9 @@ class Places:
             if len(arms) > 1 and all(re.search(r"b\"_*\"", v) for _, v in arms):
                 self.add(4, f.file, f.at, "printing by a match")
             bare = [v for p, v in arms if not re.search(r"[({]", p)]
-            if len(arms) == 2 and len(bare) == 1 and bare[0] in ("0", "true", "false") and not all(v in ("true", "false") for _, v in arms):
+            if len(arms) == 2 and len(bare) == 1 and bare[0] in ("0", "true", "false") and not any("|" in p for p, _ in arms) and not all(v in ("true", "false") for _, v in arms):
                 self.add(4, f.file, f.at, "`unwrap_or` or `is_some_and` by a match")
-            if re.fullmatch(rf"\s*\w+ as {NUMBER}\s*", f.body):
+            if re.fullmatch(rf"\s*\w+ as {NUMBER}\s*", f.body) and not f.trait:
                 self.add(4, f.file, f.at, "a cast as a function")
             words = re.findall(r"\b(?:write|print|put)\w*\((?:\w+, )+b\"_*\"\)", f.body)
             if len(words) > 2 and not arms:
