@@ -1,6 +1,6 @@
 -- A search over a range gives the lowest number below its end at which the test holds, or none.
 use Prim.Native.Nat.{◌<◌, ◌≤◌, zero-le, ℕ}
-use borrow.Author.Tests.{le-ltb, lt-ltb}
+use borrow.Author.Tests.{le-ltb, lt-ltb, ltb-false, ltb-true}
 use mathlib.Core.Bool.{Bool, false, true}
 use mathlib.Core.Path.{◌∙◌, ◌≡◌, ap, refl, sym}
 use native.Mathlib.Nat.{le_refl}
@@ -36,3 +36,20 @@ found_some n i e = ap is_some e ∙ by (ltb i n)
     by : (b : Bool) → is_some (pick b (Some i) None) ≡ b
     by true = refl
     by false = refl
+
+-- what a search that came to a number says of it, and one that came to none
+pub found_at : (n j : ℕ) {i : ℕ} → Some i ≡ found n j → (i ≡ j) × (i < n)
+found_at n j {i} e = by (ltb j n) refl e
+  where
+    by : (b : Bool) → ltb j n ≡ b → Some i ≡ pick b (Some j) None → (i ≡ j) × (i < n)
+    by true l q =
+        let s : i ≡ j = cc in
+        (s, rw s (ltb-true j n l))
+    by false l q = cc
+
+pub found_none : (n j : ℕ) → None ≡ found n j → n ≤ j
+found_none n j e = by (ltb j n) refl e
+  where
+    by : (b : Bool) → ltb j n ≡ b → None ≡ pick {A = Option ℕ} b (Some j) None → n ≤ j
+    by true l q = cc
+    by false l q = ltb-false j n l

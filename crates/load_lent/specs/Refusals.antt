@@ -2,6 +2,7 @@
 use Rattle.std.specs.Prelude.{ℕ, eqb, leb, Bool, ◌&&◌, ◌||◌, List, Result}
 use Rattle.base.specs.Folds.{pick}
 use Rattle.load_text.specs.Lines.{column_number, line_number}
+use Rattle.load_text.specs.Numbers.{wrong_number}
 use Rattle.load_text.specs.declared.Fault.{Fault}
 use Rattle.load_lent.specs.declared.Refused.{Refused}
 
@@ -19,12 +20,12 @@ has_byte n = leb 6 n && leb n 12
 
 -- "line 0 outside 6 to 12 and 15"
 abbrev pub line_of_fault : List ℕ → Fault → ℕ
-line_of_fault text f = pick (has_byte f.number || eqb f.number 15) (line_number text f.at) 0
+line_of_fault text f = pick (has_byte (wrong_number f.wrong) || eqb (wrong_number f.wrong) 15) (line_number text f.at) 0
 
 -- W-201: "the column, from 1, of the byte that decided it", "and 15 carries 1"
 abbrev pub column_of_fault : List ℕ → Fault → ℕ
-column_of_fault text f = pick (has_byte f.number) (column_number text f.at) (pick (eqb f.number 15) 1 0)
+column_of_fault text f = pick (has_byte (wrong_number f.wrong)) (column_number text f.at) (pick (eqb (wrong_number f.wrong) 15) 1 0)
 
 -- a fault met in the text of service j
 abbrev pub refused_in : List ℕ → ℕ → Fault → Refused
-refused_in text j f = record { number = f.number; service = j; line = line_of_fault text f; column = column_of_fault text f }
+refused_in text j f = record { number = wrong_number f.wrong; service = j; line = line_of_fault text f; column = column_of_fault text f }

@@ -6,7 +6,7 @@ ghost use Rattle.load_lent.specs.Parts.{service_count, within, positioned, name_
 ghost use Rattle.load_lent.specs.Checks.{find, found, names_from, sizes_from};
 ghost use Rattle.load_lent.specs.Refusals.{bare, refused_in};
 
-use load_text::{Fault, column_number, line_number, part, same_bytes};
+use load_text::{Fault, Wrong, column_number, line_number, part, same_bytes};
 use load_word::is_name;
 
 // What refuses a set: paper 01's number, with the service, the line and the column.
@@ -35,22 +35,22 @@ impl Refused {
     pub fn within(text: &[u8], service: usize, f: Fault) -> Refused
         ensures { result ≡ refused_in text.now service f }
     {
-        let number = f.number;
+        let number = u8::from(f.wrong);
         let line = line_number(text, f.at);
-        match number {
-            6..=12 => Refused {
-                number,
-                service,
-                line,
-                column: column_number(text, f.at),
-            },
-            15 => Refused {
+        match f.wrong {
+            Wrong::NoType | Wrong::NoCommand => Refused::bare(number, service),
+            Wrong::NoSuchService => Refused {
                 number,
                 service,
                 line,
                 column: 1,
             },
-            _ => Refused::bare(number, service),
+            _ => Refused {
+                number,
+                service,
+                line,
+                column: column_number(text, f.at),
+            },
         }
     }
 }

@@ -1,6 +1,6 @@
 -- Trusted: the dependencies of a set as sets of services: 15 "a dependency on a service not in the set", "by service and line"; 16 "the three kinds
 -- together have a cycle". With them the settings of each service.
-use Rattle.std.specs.Prelude.{◌+◌, ◌^◌, suc, zero, ℕ, leb, ltb, get_or, replicate, set, List}
+use Rattle.std.specs.Prelude.{◌+◌, ◌^◌, suc, zero, ℕ, leb, ltb, get_or, replicate, set, List, Result, Ok, Err}
 use Rattle.std.specs.Int.Bits.{bit_or}
 use Rattle.base.specs.Folds.{first, pick}
 use Rattle.base.specs.Links.{reach}
@@ -10,18 +10,16 @@ use Rattle.service.specs.Numbers.{with_number}
 use Rattle.service.specs.Settings.{default_settings, links_of}
 use Rattle.service.specs.declared.Settings.{Settings}
 use Rattle.load_text.specs.Lines.{fault}
-use Rattle.load_text.specs.declared.Verdict.{Verdict}
-use Rattle.load_text.specs.declared.Verdict.TheVariants.{Bad as Bad, Good as Good}
+use Rattle.load_text.specs.declared.Fault.{Fault}
+use Rattle.load_text.specs.declared.Wrong.TheVariants.{NoSuchService, TooManyDependencies}
 use Rattle.load_word.specs.declared.Link.{Link}
 use Rattle.load_word.specs.declared.Link.TheVariants.{DependsOn, DependsMs, WaitsFor}
 use Rattle.load_description.specs.Settings.{dependency_at, description_at, max_dependencies, word_at}
 use Rattle.load_description.specs.declared.Description.{Description}
 use Rattle.load_lent.specs.Checks.{find}
 use Rattle.load_lent.specs.Refusals.{bare, refused_in}
-use Rattle.load_lent.specs.declared.Answer.TheVariants.{Accepted}
-use Rattle.load_links.specs.declared.Linked.{Linked}
+use Rattle.load_lent.specs.declared.Refused.{Refused}
 use Rattle.load_links.specs.declared.Links.{Links}
-use Rattle.load_links.specs.declared.Services.{Services}
 
 abbrev pub no_links : Links
 no_links = record { hard = 0; milestone = 0; soft = 0 }
@@ -33,43 +31,39 @@ with_link l DependsMs i = record { hard = l.hard; milestone = bit_or l.milestone
 with_link l WaitsFor i = record { hard = l.hard; milestone = l.milestone; soft = bit_or l.soft (2 ^ i) }
 
 -- the dependencies of a description from number k on, with m left
-unfoldable pub links_from : (ℕ → List ℕ) → ℕ → List ℕ → Description → Links → ℕ → ℕ → Linked
-links_from name n text d l k zero = record { answer = Good; links = l }
+unfoldable pub links_from : (ℕ → List ℕ) → ℕ → List ℕ → Description → Links → ℕ → ℕ → Result Links Fault
+links_from name n text d l k zero = Ok l
 links_from name n text d l k (suc m) =
     let i = find name n (word_at text (dependency_at d k).at) in
     pick (ltb i n) (links_from name n text d (with_link l (dependency_at d k).link i) (k + 1) m)
-    (record { answer = Bad (fault 15 (dependency_at d k).at); links = l })
+    (Err (fault NoSuchService (dependency_at d k).at))
 
 -- all dependencies of a description. One that says that it has more than 16 is refused as 12 is; none that was read does
-unfoldable pub links_in : (ℕ → List ℕ) → ℕ → List ℕ → Description → Linked
+unfoldable pub links_in : (ℕ → List ℕ) → ℕ → List ℕ → Description → Result Links Fault
 links_in name n text d =
     pick (leb d.count max_dependencies) (links_from name n text d no_links 0 d.count)
-    (record { answer = Bad (fault 12 0); links = no_links })
+    (Err (fault TooManyDependencies 0))
 
 -- the settings of a service: those of its description, with the three sets of services that it depends on
 abbrev pub settings_of : Description → Links → Settings
 settings_of d l = with_number 10 l.soft (with_number 9 l.milestone (with_number 8 l.hard d.settings))
 
-abbrev pub services_on : List ℕ → ℕ → Verdict → List Settings → Services → Services
-services_on text j Good vs on = on
-services_on text j (Bad f) vs on = record { answer = refused_in text j f; services = vs }
+abbrev pub services_on : List ℕ → ℕ → Result Links Fault → (Links → Result (List Settings) Refused) → Result (List Settings) Refused
+services_on text j (Ok l) on = on l
+services_on text j (Err f) on = Err (refused_in text j f)
 
 -- from service j on with m left, in a set of n; vs holds those before it
-unfoldable pub services_from : (ℕ → List ℕ) → (ℕ → List ℕ) → List Description → ℕ → List Settings → ℕ → ℕ → Services
-services_from name text ds n vs j zero = record { answer = Accepted; services = vs }
+unfoldable pub services_from : (ℕ → List ℕ) → (ℕ → List ℕ) → List Description → ℕ → List Settings → ℕ → ℕ → Result (List Settings) Refused
+services_from name text ds n vs j zero = Ok vs
 services_from name text ds n vs j (suc m) =
     let d = description_at ds j in
-    let r = links_in name n (text j) d in
-    services_on (text j) j r.answer vs (services_from name text ds n (set vs j (settings_of d r.links)) (j + 1) m)
+    services_on (text j) j (links_in name n (text j) d)
+    (λ l. services_from name text ds n (set vs j (settings_of d l)) (j + 1) m)
 
--- 1: "more than 32 services"
-abbrev pub too_many : Services
-too_many = record { answer = bare 1 0; services = replicate max_services default_settings }
-
--- the settings of a set of n services
-unfoldable pub services_in : (ℕ → List ℕ) → (ℕ → List ℕ) → List Description → ℕ → Services
+-- the settings of a set of n services; 1: "more than 32 services"
+unfoldable pub services_in : (ℕ → List ℕ) → (ℕ → List ℕ) → List Description → ℕ → Result (List Settings) Refused
 services_in name text ds n =
-    pick (leb n max_services) (services_from name text ds n (replicate max_services default_settings) 0 n) too_many
+    pick (leb n max_services) (services_from name text ds n (replicate max_services default_settings) 0 n) (Err (bare 1 0))
 
 -- all that service s depends on
 abbrev pub links_at : List Settings → ℕ → ℕ

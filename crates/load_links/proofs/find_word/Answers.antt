@@ -6,4 +6,4 @@ use Rattle.load_links.proofs.Laws.{word_found}
 use Rattle.load_links.proofs.find_word.Goals as goal
 
 pub returns : goal.returns
-returns c = word_found _ _ _ _ c.find_name.ensures (c.part.ensures ∙ puts_part (word_at_fits _ _) c.write_word_at-m.ensures)
+returns c = word_found _ _ _ _ (c.find.ensures ∙ rw c.count.ensures) (c.part.ensures ∙ puts_part (word_at_fits _ _) c.write_word_at-m.ensures)

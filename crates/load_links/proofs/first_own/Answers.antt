@@ -1,20 +1,17 @@
--- `first_own` meets its contract: the numbers passed do not reach themselves.
-use Rattle.base.proofs.Loops.{passed_none, passed_all}
-use Rattle.load_links.proofs.Cycles.{own_hit, own_more}
+-- `first_own` meets its contract: the search gives the lowest number that reaches itself.
+use mathlib.Core.Path.{◌≡◌}
+use mathlib.Core.Bool.{false, true}
+use borrow.Author.Tests.{tests}
+use Rattle.std.proofs.Common.{rules}
+use Rattle.std.proofs.lemmas.Iterator.{first_from_Range}
+use Rattle.load_lent.proofs.Search.{found_first}
+use Rattle.load_links.proofs.Cycles.{own_first, own_found}
 use Rattle.load_links.proofs.first_own.Goals as goal
 
-pub loop-s-init : goal.loop-s-init
-loop-s-init c = passed_none
-
-pub returns-then-has_bit : goal.returns-then-has_bit
-returns-then-has_bit c =
-    own_hit c.args.rows.now _ c.requires _ _ c.loop-s.invariant c.loop-s-test.true c.reach_of-m.ensures
-    c.has_bit.ensures c.if-has_bit.true
-
-pub loop-s-preserved : goal.loop-s-preserved
-loop-s-preserved c =
-    own_more c.args.rows.now _ c.requires _ _ c.loop-s.invariant c.loop-s-test.true c.reach_of-m.ensures
-    c.has_bit.ensures c.if-has_bit.false
-
 pub returns : goal.returns
-returns c = passed_all c.loop-s.invariant c.loop-s-test.false
+returns c =
+    let n = c.args.n in
+    let rows = c.args.rows.now in
+    let h = first_from_Range _ _ _ _ (λ s. own_found rows n c.requires s ≡ true) (λ s. own_found rows n c.requires s ≡ false)
+    c.find.ensures.ran (λ x q k. search (rules, tests)) (λ x q k. search (rules, tests)) in
+    own_first rows n c.requires (found_first (own_found rows n c.requires) _ _ h)

@@ -1,12 +1,11 @@
 -- `lowest_cyclic` meets its contract.
-use Rattle.load_links.proofs.Cycles.{lowest_found, lowest_none, lowest_past}
+use native.Mathlib.Omega.{arith}
+use Rattle.std.proofs.Common.{rules}
+use Rattle.load_links.proofs.Cycles.{lowest_found, lowest_none}
 use Rattle.load_links.proofs.lowest_cyclic.Goals as goal
 
-pub returns-then-cycle : goal.returns-then-cycle
-returns-then-cycle c = search lowest_found
+pub returns-then-has_cycle : goal.returns-then-has_cycle
+returns-then-has_cycle c = lowest_found _ _ (omega arith) _ (search rules) c.first_own.ensures
 
-pub returns-then-n-le-MAX_SERVICES : goal.returns-then-n-le-MAX_SERVICES
-returns-then-n-le-MAX_SERVICES c = search lowest_none
-
-pub returns : goal.returns
-returns c = lowest_past _ _ c.if-n-le-MAX_SERVICES.false
+pub returns-else-has_cycle : goal.returns-else-has_cycle
+returns-else-has_cycle c = lowest_none _ _ (omega arith) _ (search rules) _ c.has_cycle.ensures c.if-has_cycle.false

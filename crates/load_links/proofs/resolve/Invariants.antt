@@ -1,10 +1,7 @@
-use Prim.Native.Nat.{◌-◌}
-use Rattle.load_lent.specs.Parts.{name_at}
+use Rattle.load_lent.specs.Parts.{name_at, service_count}
 use Rattle.load_links.proofs.Laws.{Linking}
 use Rattle.load_links.proofs.resolve.Given as goal
 
-abbrev pub invariant-loop-k : goal.invariant-loop-k
-invariant-loop-k l = Linking (name_at l.lent l.ends) l.n l.text l.d l.l l.k
-
-abbrev pub decreases-loop-k : goal.decreases-loop-k
-decreases-loop-k l = l.d.count - l.k
+abbrev pub invariant-loop-dependency : goal.invariant-loop-dependency
+invariant-loop-dependency l =
+    Linking (name_at l.lent.bytes.now l.lent.ends.now) (service_count l.lent.ends.now) l.text l.fn.d l.links l.dependency-index
