@@ -32,8 +32,9 @@ pub struct Kept {
     pub stop: Option<usize>,
 }
 
-// What the lines so far say: the settings, but for the services depended on; whether there was a type; what is kept; the dependencies, of
-// which there are `count`. A flag for the type: the settings hold one by default, so an Option would hold it twice.
+// What the lines so far say: the settings, but for the services depended on; whether there was a type; what is kept; the dependencies.
+// A flag for the type: the settings hold one by default, so an Option beside them would hold it twice.
+// An array with its count: the core allocates nothing (docs/HOST.md, "Reentrancy"), and one Description is put into all places of an array.
 #[derive(Clone, Copy)]
 pub struct Description {
     pub settings: Settings,

@@ -1,8 +1,8 @@
 // A description read line by line: each line's answer, what it does to the settings, and the whole text.
 #![tactic(auto)]
 
-ghost use Rattle.std.specs.Prelude.{◌≡◌, ◌+◌, ◌<◌, Ok, Some, length};
-ghost use Rattle.load_text.specs.Lines.{lines_of};
+ghost use Rattle.std.specs.Prelude.{◌≡◌, ◌+◌, ◌<◌, IfErr, MatchResult, Ok, Some, length};
+ghost use Rattle.load_text.specs.Lines.{fault, lines_of};
 ghost use Rattle.load_text.proofs.Lines.{Inside};
 ghost use Rattle.load_description.specs.Settings.{blank, affected};
 ghost use Rattle.load_description.specs.Lines.{property_read, line_read};
@@ -14,6 +14,7 @@ use load_value::scan_value;
 use load_word::{Command, Property, find_property, with_kind};
 
 // What a line does to the description: a setting or a command takes the place of an earlier one, and dependencies add up.
+// No method of Description: in load_description it would be public, and a public function has no `requires` (docs/DESIGN.md).
 fn affect(d: &mut Description, e: Effect)
     requires { d.old.count < 18446744073709551615 }
     ensures { d.new ≡ affected d.old e }
@@ -47,6 +48,17 @@ fn affect(d: &mut Description, e: Effect)
     }
 }
 
+// What was read of a part of the text that begins at an offset: its fault is told by the offset in the text.
+fn told_from<T>(from: usize, read: Result<T, Fault>) -> Result<T, Fault>
+    requires { IfErr read (λ f. from + f.at < 18446744073709551616) }
+    ensures { MatchResult read (λ x. result ≡ Ok x) (λ f. result ≡ Err (fault f.wrong (from + f.at))) }
+{
+    read.map_err(|f| Fault {
+        at: from + f.at,
+        ..f
+    })
+}
+
 // A line by its property; the line begins at the offset `from`.
 #[tactic(auto, unfolding(load_description::specs::Lines::property_read))]
 fn read_property(
@@ -71,13 +83,8 @@ fn read_property(
         seen: from + white_end(line, s.value),
     };
     let value = tail(line, s.value);
-    match scan_value(value) {
-        Ok(sizes) => d.read_tokens(text, p, start, sizes, value),
-        Err(f) => Err(Fault {
-            at: start.at + f.at,
-            ..f
-        }),
-    }
+    let sizes = told_from(start.at, scan_value(value))?;
+    d.read_tokens(text, p, start, sizes, value)
 }
 
 // The answer to a line, which begins at the offset `from`.
@@ -86,17 +93,11 @@ fn read_line(text: &[u8], d: &Description, from: usize, line: &[u8]) -> Result<E
     requires { from + length line.now < 9223372036854775808 }
     ensures { result ≡ line_read text.now d.now from line.now }
 {
-    match opening_of(line) {
-        Ok(None) => Ok(Effect::Nothing),
-        Ok(Some(s)) => {
-            let p = find_property(part(line, s.from, s.end));
-            read_property(text, d, from, line, s, p)
-        }
-        Err(f) => Err(Fault {
-            at: from + f.at,
-            ..f
-        }),
-    }
+    let Some(s) = told_from(from, opening_of(line))? else {
+        return Ok(Effect::Nothing);
+    };
+    let p = find_property(part(line, s.from, s.end));
+    read_property(text, d, from, line, s, p)
 }
 
 // The lines of a text with no bad byte.
@@ -105,7 +106,7 @@ fn read_lines(text: &[u8]) -> Result<Description, Fault>
 {
     let mut d = Description::blank();
     let mut from = 0;
-    // A while: it goes on by whole lines, each as long as it is.
+    // A while: the measure is the text that is left, and each line says where the next begins.
     while from < text.len() {
         let end = line_end(text, from);
         let answer = read_line(text, &d, from, part(text, from, end));

@@ -1,9 +1,11 @@
 -- `read_line` meets its contract: the places of a line's opening are within it.
-use Rattle.load_reader.proofs.Properties.{opened, opening_fits}
+use Rattle.load_reader.proofs.Properties.{opened, opening_fits, told_ok}
 use Rattle.load_reader.proofs.read_line.Goals as goal
 
-pub read_property-requires : goal.read_property-requires
-read_property-requires c = opened _ _ c.requires (rw c.in-Ok-Some.field-0-is at c.in-Ok-Some.ensures)
+pub told_from-requires : goal.told_from-requires
+told_from-requires c = opening_fits c.args.from c.args.line.now c.requires c.opening_of.ensures
 
-pub overflow_add-result : goal.overflow_add-result
-overflow_add-result c = record { fits = search (opening_fits, c.in-Err.ensures) }
+pub read_property-requires : goal.read_property-requires
+read_property-requires c =
+    let t = told_ok c.args.from c.opening_of.result c.in_ok-s.ensures in
+    (c.requires, opened c.args.line.now {s = c.in-Some.s} (cc))

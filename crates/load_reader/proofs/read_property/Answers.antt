@@ -1,9 +1,29 @@
 -- `read_property` meets its contract: every offset is within the line.
-use Rattle.load_reader.proofs.Properties.{seen_fits, fault_fits}
+use Rattle.std.proofs.Common.{rules, ◌≡◌, ◌+◌, Ok, Err, sym, ◌∙◌}
+use Rattle.load_value.specs.Values.{scan_of}
+use Rattle.load_description.specs.Lines.{property_read}
+use Rattle.load_reader.proofs.Properties.{seen_fits, value_fits, told_ok, told_err}
 use Rattle.load_reader.proofs.read_property.Goals as goal
 
 pub overflow_add-start-2 : goal.overflow_add-start-2
 overflow_add-start-2 c = record { fits = search seen_fits }
 
-pub overflow_add-result-in-Err : goal.overflow_add-result-in-Err
-overflow_add-result-in-Err c = record { fits = search (fault_fits, c.in-Err.ensures) }
+pub told_from-requires : goal.told_from-requires
+told_from-requires c =
+    let a = c.args in
+    value_fits a.from a.line.now c.requires.0 a.s.value c.requires.1.1 c.tail-value.ensures c.scan_value.ensures
+
+pub returns-in_err-sizes : goal.returns-in_err-sizes
+unfolding property_read
+returns-in_err-sizes c =
+    let t = told_err (c.args.from + c.args.s.value) c.scan_value.result c.in_err-sizes.ensures in
+    let s : scan_of c.tail-value.result.now ≡ Err t.0 = sym c.scan_value.ensures ∙ t.1 in
+    let e = t.2 in
+    search rules
+
+pub returns : goal.returns
+unfolding property_read
+returns c =
+    let t = told_ok (c.args.from + c.args.s.value) c.scan_value.result c.in_ok-sizes.ensures in
+    let s : scan_of c.tail-value.result.now ≡ Ok c.in_ok-sizes.sizes = sym c.scan_value.ensures ∙ t in
+    search rules
