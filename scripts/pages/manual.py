@@ -193,7 +193,7 @@ class Manual:
         linked = re.findall(r'\[(\d+)\]\(#number-\1\)', self.text.partition('\n## ')[0])
         self.listed('the numbers linked at the top', [int(number) for number in linked], sorted(numbers))
         first, last = self.facts.found(REFUSALS, r'(?m)^has_byte n = leb (\d+) n && leb n (\d+)$')[0]
-        absent = self.facts.found(REFUSALS, r'pick \(eqb f\.number (\d+)\) 1 0')[0]
+        absent = self.facts.found(REFUSALS, r'pick \(eqb [^\n]*? (\d+)\) 1 0')[0]
         pointed = [*range(int(first), int(last) + 1), int(absent)]
         for number, body in sections.items():
             if ('**Line and column:**' in body) != (number in pointed) or ('Line and column are 0' in body) == (number in pointed):
