@@ -1,3 +1,3 @@
 -- The laws, each file after those that it cites.
-pub mod Parting
+pub mod Splits
 pub mod Numbers

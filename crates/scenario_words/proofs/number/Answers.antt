@@ -1,22 +1,20 @@
 -- `number` meets its contract.
-use Prim.Native.Nat.{zero-le}
-use Rattle.scenario_words.specs.Numbers.{number_of}
-use Rattle.scenario_words.proofs.Numbers.{reading_all, reading_more, reading_off}
+use Rattle.std.proofs.Common.{rules, ◌∙◌}
+use Rattle.scenario_words.proofs.Numbers.{number_sized, number_unsized, digit_read, digit_refused, digits_read}
 use Rattle.scenario_words.proofs.number.Goals as goal
 
-pub returns-else-sized : goal.returns-else-sized
-unfolding number_of
-returns-else-sized c = rw c.if-sized.false
+pub returns-then-is_empty : goal.returns-then-is_empty
+returns-then-is_empty c = number_unsized _ (search (rules))
 
-pub loop-i-init : goal.loop-i-init
-unfolding number_of
-loop-i-init c = record { within = zero-le; rest = rw c.if-sized.true }
+pub loop-b-init : goal.loop-b-init
+loop-b-init c = number_sized _ (search rules) c.if-word-gt20.false
 
-pub returns-else-read : goal.returns-else-read
-returns-else-read c = search reading_off
+pub returns-in_err-value : goal.returns-in_err-value
+returns-in_err-value c =
+    c.from_residual.ensures ∙ digit_refused _ _ _ c.loop-b.invariant c.loop-b-test.true c.in_err-value.ensures
 
-pub loop-i-preserved : goal.loop-i-preserved
-loop-i-preserved c = search reading_more
+pub loop-b-preserved : goal.loop-b-preserved
+loop-b-preserved c = digit_read _ _ _ c.loop-b.invariant c.loop-b-test.true c.in_ok-value.ensures
 
 pub returns : goal.returns
-returns c = search reading_all
+returns c = digits_read _ _ _ c.loop-b.invariant c.loop-b-test.false

@@ -1,10 +1,6 @@
-use Prim.Native.Nat.{◌-◌}
-use lib.ListN.{length}
-use Rattle.scenario_words.proofs.Numbers.{Reading}
+use Rattle.std.proofs.Common.{◌≡◌, drop}
+use Rattle.scenario_words.specs.Numbers.{number_of, number_from}
 use Rattle.scenario_words.proofs.number.Given as goal
 
-abbrev pub invariant-loop-i : goal.invariant-loop-i
-invariant-loop-i l = Reading l.word l.value l.i
-
-abbrev pub decreases-loop-i : goal.decreases-loop-i
-decreases-loop-i l = length l.word - l.i
+abbrev pub invariant-loop-b : goal.invariant-loop-b
+invariant-loop-b l = number_of l.word ≡ number_from l.value (drop l.b-index l.word)

@@ -1,9 +1,12 @@
--- `piece` meets its contract: the part from where it begins to where it ends.
-use mathlib.Core.Path.{sym, ◌∙◌}
-use Rattle.scenario_words.proofs.Parting.{piece_part}
+-- `piece` meets its contract.
+use Rattle.std.proofs.Common.{eqb, rules, tests, refl}
+use Rattle.std.proofs.lemmas.Iterator.Consumers.{nth_from_yields_List}
+use Rattle.std.proofs.lemmas.Iterator.Splits.{YieldsList-from_slice_split}
+use Rattle.scenario_words.proofs.Splits.{piece_found}
 use Rattle.scenario_words.proofs.piece.Goals as goal
 
 pub returns : goal.returns
 returns c =
-    c.part.ensures ∙ piece_part _ _ _ c.piece_start-start.ensures.0 c.piece_end-end.ensures ∙
-    sym c.piece_start-start.ensures.1
+    piece_found c.args.parting c.args.text.now c.args.k c.nth.result _ c.unwrap_or.ensures refl
+    (nth_from_yields_List c.nth.result c.nth.new.self c.args.k c.nth.ensures.ran
+    (YieldsList-from_slice_split _ (λ b. eqb b c.args.parting) c.args.text.now c.split.ensures.rest c.split.ensures.done c.split.ensures.closure (λ x b q k. search (rules, tests))))

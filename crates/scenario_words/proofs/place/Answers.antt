@@ -1,16 +1,13 @@
 -- `place` meets its contract.
-use Rattle.base.proofs.Loops.{passed_none}
-use Rattle.scenario_words.proofs.Parting.{choosing_more, choosing_here, choosing_none}
+use Rattle.std.proofs.Common.{eqb, rules, tests}
+use Rattle.std.proofs.lemmas.Iterator.Search.{position_from_yields_List}
+use Rattle.std.proofs.lemmas.Iterator.Splits.{YieldsList-from_slice_split}
+use Rattle.load_text.specs.Strings.{same}
+use Rattle.scenario_words.proofs.Splits.{place_found}
 use Rattle.scenario_words.proofs.place.Goals as goal
 
-pub loop-k-init : goal.loop-k-init
-loop-k-init c = passed_none
-
-pub returns-then-same_bytes : goal.returns-then-same_bytes
-returns-then-same_bytes c = search choosing_here
-
-pub loop-k-preserved : goal.loop-k-preserved
-loop-k-preserved c = search choosing_more
-
 pub returns : goal.returns
-returns c = search choosing_none
+returns c =
+    place_found c.args.parting c.args.choices.now c.args.wanted.now
+    (position_from_yields_List (same c.args.wanted.now) _ _ c.position.result c.position.ensures.ran
+    (YieldsList-from_slice_split _ (λ b. eqb b c.args.parting) c.args.choices.now c.split.ensures.rest c.split.ensures.done c.split.ensures.closure (λ x b q k. search (rules, tests))) (λ x b q k. search (rules, tests)))

@@ -1,0 +1,68 @@
+-- The pieces of a text are the parts that the library's `split` gives, and the place of a word is the first part that is it.
+use Rattle.std.proofs.Common.{ℕ, suc, ◌+◌, ◌≡◌, refl, sym, ap, ◌∙◌, Bool, true, false, cond, Bor, List, [], ◌∷◌, eqb, ltb, length, get_or, arith, Option, Some, None, add-zero}
+use Rattle.std.specs.List.{slice_split, onto_first, position_or_len}
+use Rattle.std.specs.List.{slice_get}
+use Rattle.std.specs.Option.{option_map, unwrap_or}
+use Rattle.std.proofs.lemmas.Option.{unwrap_or-slice_get}
+use Rattle.std.proofs.lemmas.List.Splits.{slice_split-cons_yes, slice_split-cons_no}
+use Rattle.base.specs.Folds.{first_from, first}
+use Rattle.load_text.specs.Strings.{same}
+use Rattle.load_text.specs.Lines.{grow}
+use Rattle.scenario_words.specs.Numbers.{read_if}
+use Rattle.scenario_words.specs.Pieces.{opened, pieces_of, piece_of, piece_count, place_of}
+
+grow_onto : (b : ℕ) (ls : List (List ℕ)) → grow b ls ≡ onto_first b ls
+grow_onto b [] = refl
+grow_onto b (l ∷ ls) = refl
+
+pub pieces_split : (p : ℕ) (s : List ℕ) → slice_split (λ b. eqb b p) s ≡ pieces_of p s
+unfolding pieces_of
+pieces_split p [] = refl
+pieces_split p (b ∷ bs) = by (eqb b p) refl (pieces_split p bs)
+  where
+    by : (t : Bool) → eqb b p ≡ t → slice_split (λ x. eqb x p) bs ≡ pieces_of p bs
+        → slice_split (λ x. eqb x p) (b ∷ bs) ≡ opened t b (pieces_of p bs)
+    by true e h = rw (slice_split-cons_yes (λ x. eqb x p) b bs e, h)
+    by false e h = rw (slice_split-cons_no (λ x. eqb x p) b bs e, h) (sym (grow_onto b (pieces_of p bs)))
+
+-- the numbers from i on, at which q says what the test does of the elements of a list from its first on
+located : {X : Type 0} (test : X → Bool) (q : ℕ → Bool) (d : X) (xs : List X) (i : ℕ)
+    → ((j : ℕ) → q (i + j) ≡ test (get_or xs j d)) → i + position_or_len test xs ≡ first_from q (length xs) i
+located test q d [] i h = omega arith
+located test q d (x ∷ xs) i h = by (test x) refl (ap q (sym (add-zero i)) ∙ h 0) (located test q d xs (suc i) (λ (j : ℕ). ap q (omega arith) ∙ h (suc j)))
+  where
+    by : (t : Bool) → test x ≡ t → q i ≡ test x → suc i + position_or_len test xs ≡ first_from q (length xs) (suc i)
+        → i + position_or_len test (x ∷ xs) ≡ first_from q (length (x ∷ xs)) i
+    by true e h r = rw (h, e) (omega arith)
+    by false e h r = rw (h, e) (omega (arith, r))
+
+cond_pick : (t : Bool) (n : ℕ) → cond t (Some n) None ≡ read_if t n
+cond_pick true n = refl
+cond_pick false n = refl
+
+-- the place of a word, as `position` finds it
+pub place_found : (p : ℕ) (s w : List ℕ) {r : Option ℕ}
+    → (let ls = slice_split (λ b. eqb b p) s in
+    let k = position_or_len (same w) ls in
+    r ≡ cond (ltb k (length ls)) (Some k) None)
+    → r ≡ place_of s p w
+unfolding place_of first
+place_found p s w h =
+    let q = λ (k : ℕ). same w (get_or (pieces_of p s) k []) in
+    let n = length (pieces_of p s) in
+    let k : position_or_len (same w) (pieces_of p s) ≡ first_from q n 0 =
+    omega (arith, located (same w) q [] (pieces_of p s) 0 (λ j. ap q (omega arith))) in
+    (rw (pieces_split p s, k) at h) ∙ cond_pick (ltb (first_from q n 0) n) (first_from q n 0)
+
+-- a piece, as `nth` finds it among the parts
+pub piece_found : (p : ℕ) (s : List ℕ) (k : ℕ) (r : Option (Bor (List ℕ))) (d : Bor (List ℕ)) {o : Bor (List ℕ)} → o ≡ unwrap_or r d → d.now ≡ []
+    → option_map (λ x. x.now) r ≡ slice_get (slice_split (λ b. eqb b p) s) k → o.now ≡ piece_of s p k
+piece_found p s k r d g e h =
+    rw g (mapped r ∙ rw (e, h, pieces_split p s) (unwrap_or-slice_get (pieces_of p s) k []))
+  where
+    mapped : (r : Option (Bor (List ℕ))) → (unwrap_or r d).now ≡ unwrap_or (option_map (λ (x : Bor (List ℕ)). x.now) r) d.now
+    mapped None = refl
+    mapped (Some x) = refl
+
+pub pieces_counted : (p : ℕ) (s : List ℕ) {n : ℕ} → n ≡ length (slice_split (λ b. eqb b p) s) → n ≡ piece_count s p
+pieces_counted p s h = h ∙ ap length (pieces_split p s)
