@@ -1,4 +1,3 @@
 -- The laws, each file after those that it cites.
-pub mod Tests
 pub mod Forms
 pub mod Lines

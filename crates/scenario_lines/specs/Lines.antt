@@ -1,59 +1,19 @@
 -- Of the code: a line of a scenario, read to what it asks for.
-use Rattle.std.specs.Prelude.{ℕ, ◌+◌, ◌-◌, ◌*◌, Bool, true, ◌&&◌, ◌||◌, List, [], eqb, leb, ltb, length, get_or}
+use Rattle.std.specs.Prelude.{ℕ, ◌+◌, ◌-◌, ◌*◌, Bool, true, ◌&&◌, ◌||◌, Option, Some, None, List, [], eqb, leb, ltb, length, get_or}
+use Rattle.std.specs.Option.{is_some, unwrap_or, option_map}
+use Rattle.std.specs.List.{slice_get}
 use Rattle.base.specs.Folds.{pick, every}
 use Rattle.service.specs.Limits.{max_services}
 use Rattle.load_text.specs.Strings.{bytes, same}
 use Rattle.scenario_words.specs.Numbers.{number_of}
 use Rattle.scenario_lines.specs.declared.Command.{Command}
-use Rattle.scenario_lines.specs.Forms.{forms, form_count, word_of, word_count, value_at, begins_as, form_of, read_form}
-
--- the verbs: the places of the forms that set a number of the state or the table, and of that of a load
-abbrev pub set_clock : ℕ
-set_clock = 11
-
-abbrev pub set_record : ℕ
-set_record = 12
-
-abbrev pub set_record_last : ℕ
-set_record_last = 23
-
-abbrev pub set_count : ℕ
-set_count = 24
-
-abbrev pub set_table : ℕ
-set_table = 25
-
-abbrev pub set_table_last : ℕ
-set_table_last = 32
-
-abbrev pub load : ℕ
-load = 33
-
--- and those of what fits no form
-abbrev pub bad_verb : ℕ
-bad_verb = form_count
-
-abbrev pub load_at : ℕ
-load_at = bad_verb + 1
-
-abbrev pub nothing : ℕ
-nothing = bad_verb + 2
-
-abbrev pub begin : ℕ
-begin = bad_verb + 3
-
-abbrev pub add_line : ℕ
-add_line = bad_verb + 4
-
-abbrev pub add_piece : ℕ
-add_piece = bad_verb + 5
+use Rattle.scenario_lines.specs.declared.Verb.{Verb}
+use Rattle.scenario_lines.specs.declared.Verb.TheVariants.{Load, LoadNone, LoadAt, Nothing, Begin, AddLine, AddPiece}
+use Rattle.scenario_lines.specs.Forms.{forms, named_verbs, word_of, word_count, value_at, begins_as, form_of, read_form}
 
 -- a verb with no numbers
-abbrev pub plain : ℕ → Command
+abbrev pub plain : Verb → Command
 plain v = record { verb = v; first = 0; last = 0 }
-
-abbrev pub bad : Command
-bad = plain bad_verb
 
 -- "1 to 70 numbers": two for each service, and of three services more than a set may have
 abbrev pub most_positions : ℕ
@@ -61,47 +21,64 @@ most_positions = 2 * (max_services + 3)
 
 -- the n words from the third on are numbers
 unfoldable pub are_numbers : List ℕ → ℕ → Bool
-are_numbers l n = every (λ k. (number_of (word_of l (k + 2))).good) n
+are_numbers l n = every (λ k. is_some (number_of (word_of l (k + 2)))) n
 
--- "load ROOM P P ..", with the room and the number of positions; form is that of a load
-unfoldable pub read_load : List ℕ → List ℕ → Command
-read_load form l =
+-- "load ROOM P P ..", with the room and the number of positions
+abbrev pub load_form : List ℕ
+unfolding bytes
+load_form = bytes "load #65536"
+
+unfoldable pub read_load : List ℕ → Option Command
+read_load l =
     let n = word_count l in
-    pick (leb 3 n && leb n (most_positions + 2) && (begins_as form l 2 && are_numbers l (n - 2)))
-    (record { verb = load_at; first = (value_at form l 1).value; last = n - 2 }) bad
+    pick (leb 3 n && leb n (most_positions + 2) && (begins_as load_form l 2 && are_numbers l (n - 2)))
+    (Some (record { verb = LoadAt; first = unwrap_or (value_at load_form l 1) 0; last = n - 2 })) None
 
--- a line that is separated into words
-unfoldable pub read_parted : List (List ℕ) → List ℕ → Command
-read_parted forms l =
-    let verb = form_of forms l in
-    pick (eqb verb bad_verb) (read_load (get_or forms load []) l) (read_form (get_or forms verb []) l verb)
+-- a line that is separated into words: it fits a form, or is a load with positions
+abbrev pub read_found : List (List ℕ) → List ℕ → Option ℕ → Option Command
+read_found fs l (Some k) = option_map (read_form (get_or fs k []) l) (slice_get named_verbs k)
+read_found fs l None = read_load l
+
+unfoldable pub read_parted : List (List ℕ) → List ℕ → Option Command
+read_parted forms l = read_found forms l (form_of forms l)
 
 -- "A line of no bytes, and a line that begins with `%`, says nothing"; "service NAME"; "|TEXT"; "!TEXT"
-unfoldable pub opening_of : List ℕ → ℕ
+unfoldable pub opening_of : List ℕ → Option Verb
 unfolding bytes
 opening_of l =
     let byte = get_or l 0 0 in
-    pick (eqb (length l) 0 || eqb byte 37) nothing
-    (pick (same (word_of l 0) (bytes "service") && ltb 1 (word_count l)) begin
-    (pick (eqb byte 124) add_line (pick (eqb byte 33) add_piece bad_verb)))
+    pick (eqb (length l) 0 || eqb byte 37) (Some Nothing)
+    (pick (same (word_of l 0) (bytes "service") && ltb 1 (word_count l)) (Some Begin)
+    (pick (eqb byte 124) (Some AddLine) (pick (eqb byte 33) (Some AddPiece) None)))
 
--- a line by itself
-unfoldable pub read_any : List (List ℕ) → List ℕ → Command
-read_any forms l =
-    let verb = opening_of l in
-    pick (eqb verb bad_verb) (read_parted forms l) (plain verb)
+-- a line by itself: its opening decides it, or its words
+abbrev pub read_opened : List (List ℕ) → List ℕ → Option Verb → Option Command
+read_opened fs l (Some verb) = Some (plain verb)
+read_opened fs l None = read_parted fs l
+
+unfoldable pub read_any : List (List ℕ) → List ℕ → Option Command
+read_any forms l = read_opened forms l (opening_of l)
 
 -- "a line that comes before what it needs (`|` or `!` before a `service`; `show`, `state`, `set`, `table` or a call with no
 -- set loaded)"
-unfoldable pub has_needed : ℕ → Bool → Bool → Bool
-has_needed v begun loaded =
-    pick (eqb v add_line || eqb v add_piece) begun (pick (leb load v && leb v begin) true loaded)
+unfoldable pub has_needed : Verb → Bool → Bool → Bool
+has_needed AddLine begun loaded = begun
+has_needed AddPiece begun loaded = begun
+has_needed Load begun loaded = true
+has_needed LoadNone begun loaded = true
+has_needed LoadAt begun loaded = true
+has_needed Nothing begun loaded = true
+has_needed Begin begun loaded = true
+has_needed _ begun loaded = loaded
 
-unfoldable pub read_after : List (List ℕ) → List ℕ → Bool → Bool → Command
-read_after forms l begun loaded =
-    let c = read_any forms l in
-    pick (has_needed c.verb begun loaded) c bad
+-- a line that has what it needs
+abbrev pub needed : Bool → Bool → Option Command → Option Command
+needed begun loaded (Some c) = pick (has_needed c.verb begun loaded) (Some c) None
+needed begun loaded None = None
 
--- what a line asks for, after a service was begun or not, and with a set loaded or not
-unfoldable pub command_of : List ℕ → Bool → Bool → Command
+unfoldable pub read_after : List (List ℕ) → List ℕ → Bool → Bool → Option Command
+read_after forms l begun loaded = needed begun loaded (read_any forms l)
+
+-- what a line asks for, after a service was begun or not, and with a set loaded or not; there is none where it is bad
+unfoldable pub command_of : List ℕ → Bool → Bool → Option Command
 command_of l begun loaded = read_after forms l begun loaded

@@ -1,15 +1,13 @@
 -- The pieces of a text are the parts that the library's `split` gives, and the place of a word is the first part that is it.
 use Rattle.std.proofs.Common.{ℕ, suc, ◌+◌, ◌≡◌, refl, sym, ap, ◌∙◌, Bool, true, false, cond, Bor, List, [], ◌∷◌, eqb, ltb, length, get_or, arith, Option, Some, None, add-zero}
-use Rattle.std.specs.List.{slice_split, onto_first, position_or_len}
-use Rattle.std.specs.List.{slice_get}
+use Rattle.std.specs.List.{slice_split, slice_get, onto_first, position_or_len}
 use Rattle.std.specs.Option.{option_map, unwrap_or}
 use Rattle.std.proofs.lemmas.Option.{unwrap_or-slice_get}
 use Rattle.std.proofs.lemmas.List.Splits.{slice_split-cons_yes, slice_split-cons_no}
 use Rattle.base.specs.Folds.{first_from, first}
-use Rattle.load_text.specs.Strings.{same}
 use Rattle.load_text.specs.Lines.{grow}
 use Rattle.scenario_words.specs.Numbers.{read_if}
-use Rattle.scenario_words.specs.Pieces.{opened, pieces_of, piece_of, piece_count, place_of}
+use Rattle.scenario_words.specs.Pieces.{opened, pieces_of, piece_of, piece_count}
 
 grow_onto : (b : ℕ) (ls : List (List ℕ)) → grow b ls ≡ onto_first b ls
 grow_onto b [] = refl
@@ -40,18 +38,20 @@ cond_pick : (t : Bool) (n : ℕ) → cond t (Some n) None ≡ read_if t n
 cond_pick true n = refl
 cond_pick false n = refl
 
--- the place of a word, as `position` finds it
-pub place_found : (p : ℕ) (s w : List ℕ) {r : Option ℕ}
+-- the place of the first piece that passes a test, as `position` finds it among the parts
+pub first_found : (p : ℕ) (s : List ℕ) (test : List ℕ → Bool) {r : Option ℕ}
     → (let ls = slice_split (λ b. eqb b p) s in
-    let k = position_or_len (same w) ls in
+    let k = position_or_len test ls in
     r ≡ cond (ltb k (length ls)) (Some k) None)
-    → r ≡ place_of s p w
-unfolding place_of first
-place_found p s w h =
-    let q = λ (k : ℕ). same w (get_or (pieces_of p s) k []) in
+    → (let n = piece_count s p in
+    let k = first (λ i. test (piece_of s p i)) n in
+    r ≡ read_if (ltb k n) k)
+unfolding first
+first_found p s test h =
+    let q = λ (k : ℕ). test (get_or (pieces_of p s) k []) in
     let n = length (pieces_of p s) in
-    let k : position_or_len (same w) (pieces_of p s) ≡ first_from q n 0 =
-    omega (arith, located (same w) q [] (pieces_of p s) 0 (λ j. ap q (omega arith))) in
+    let k : position_or_len test (pieces_of p s) ≡ first_from q n 0 =
+    omega (arith, located test q [] (pieces_of p s) 0 (λ j. ap q (omega arith))) in
     (rw (pieces_split p s, k) at h) ∙ cond_pick (ltb (first_from q n 0) n) (first_from q n 0)
 
 -- a piece, as `nth` finds it among the parts

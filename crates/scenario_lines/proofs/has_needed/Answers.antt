@@ -1,13 +1,17 @@
 -- `has_needed` meets its contract.
-use mathlib.Core.Path.{refl}
-use Rattle.scenario_lines.proofs.Lines.{needed_told}
+use Rattle.std.proofs.Common.{arith}
+use Rattle.std.proofs.lemmas.Grind.{common_steps}
+use Rattle.scenario_lines.specs.Lines.{has_needed}
 use Rattle.scenario_lines.proofs.has_needed.Goals as goal
 
-pub returns-then-adds : goal.returns-then-adds
-returns-then-adds c = needed_told _ _ _ c.if-adds.true refl
+pub returns-in-AddLine : goal.returns-in-AddLine
+unfolding has_needed
+returns-in-AddLine c = grind (arith, common_steps)
 
-pub returns-then-free : goal.returns-then-free
-returns-then-free c = needed_told _ _ _ c.if-adds.false c.if-free.true
+pub returns-in-Load : goal.returns-in-Load
+unfolding has_needed
+returns-in-Load c = grind (arith, common_steps)
 
-pub returns : goal.returns
-returns c = needed_told _ _ _ c.if-adds.false c.if-free.false
+pub returns-in_default : goal.returns-in_default
+unfolding has_needed
+returns-in_default c = grind (arith, common_steps)

@@ -7,10 +7,6 @@ pub returns-then-same_bytes : goal.returns-then-same_bytes
 unfolding bytes
 returns-then-same_bytes c = most_service _ c.same_bytes.ensures c.if-same_bytes.true
 
-pub returns-then-read : goal.returns-then-read
+pub returns-else-same_bytes : goal.returns-else-same_bytes
 unfolding bytes
-returns-then-read c = most_read _ c.same_bytes.ensures c.if-same_bytes.false c.tail.ensures c.number-read.ensures c.if-read.true
-
-pub returns : goal.returns
-unfolding bytes
-returns c = most_read _ c.same_bytes.ensures c.if-same_bytes.false c.tail.ensures c.number-read.ensures c.if-read.false
+returns-else-same_bytes c = most_read _ c.same_bytes.ensures _ _ c.if-same_bytes.false c.tail.ensures c.number.ensures c.unwrap_or.ensures

@@ -1,5 +1,5 @@
--- `named_verbs` meets its contract: each constant is the place of its form, by computation.
-use mathlib.Core.Path.{refl}
+-- `named_verbs` meets its contract: each verb stands where its form does, by computation.
+use Rattle.std.proofs.Common.{refl}
 use Rattle.scenario_lines.specs.Forms.{named_verbs}
 use Rattle.scenario_lines.proofs.named_verbs.Goals as goal
 

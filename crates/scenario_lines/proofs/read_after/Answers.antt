@@ -1,12 +1,7 @@
 -- `read_after` meets its contract.
-use mathlib.Core.Path.{◌∙◌}
+use Rattle.std.proofs.Common.{rules, tests}
 use Rattle.scenario_lines.proofs.Lines.{after_read}
 use Rattle.scenario_lines.proofs.read_after.Goals as goal
 
-pub returns-then-good : goal.returns-then-good
-returns-then-good c = after_read _ _ _ _ c.read_any-command.ensures c.has_needed-good.ensures c.if-good.true
-
 pub returns : goal.returns
-returns c =
-    c.bad_line.ensures ∙ after_read _ _ _ _ c.read_any-command.ensures
-    c.has_needed-good.ensures c.if-good.false
+returns c = after_read _ _ _ _ c.read_any.result c.filter.result _ c.read_any.ensures c.filter.ensures (λ x t k. search (rules, tests))

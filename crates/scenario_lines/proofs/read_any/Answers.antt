@@ -2,8 +2,8 @@
 use Rattle.scenario_lines.proofs.Lines.{any_parted, any_plain}
 use Rattle.scenario_lines.proofs.read_any.Goals as goal
 
-pub returns-then-parted : goal.returns-then-parted
-returns-then-parted c = search any_parted
+pub returns-in-Some : goal.returns-in-Some
+returns-in-Some c = any_plain _ _ _ c.in-Some.ensures
 
-pub returns : goal.returns
-returns c = search any_plain
+pub returns-in-None : goal.returns-in-None
+returns-in-None c = any_parted _ _ c.in-None.ensures c.read_parted.ensures

@@ -1,23 +1,31 @@
 -- `read_load` meets its contract: too few words, too many, or a load with positions.
-use mathlib.Core.Path.{◌∙◌}
-use Rattle.scenario_lines.proofs.Lines.{load_few, load_many, load_read}
-use borrow.Author.Rules.{rules}
+use Rattle.std.proofs.Common.{◌∙◌, Option, ℕ, ap, inl, inr, sym}
+use Rattle.load_text.specs.Strings.{bytes}
+use Rattle.std.specs.Option.{unwrap_or}
+use Rattle.scenario_lines.proofs.Lines.{load_not, load_read, load_refused}
 use Rattle.scenario_lines.proofs.read_load.Goals as goal
+use Rattle.scenario_lines.proofs.read_load.Goals.{then-count-lt3-via-then-count-lt3, then-count-lt3-via-else-count-lt3+then-count}
+use Rattle.scenario_lines.proofs.read_load.Goals.{else-begins_as-via-then-begins_as+else-are_numbers, else-begins_as-via-else-begins_as}
 
 pub returns-then-count-lt3 : goal.returns-then-count-lt3
-returns-then-count-lt3 c = c.bad_line.ensures ∙ load_few _ _ c.pieces-count.ensures (search rules)
+returns-then-count-lt3 c =
+    load_not _ c.pieces-count.ensures
+    (elim c.then-count-lt3.branch [
+      | then-count-lt3-via-then-count-lt3 w ↦ inl w.if-count-lt3.true
+      | then-count-lt3-via-else-count-lt3+then-count w ↦ inr w.if-count.true
+    ])
 
-pub returns-then-count : goal.returns-then-count
-returns-then-count c = c.bad_line-then-count.ensures ∙ load_many _ _ c.pieces-count.ensures (search rules) (search rules)
+pub returns-then-are_numbers : goal.returns-then-are_numbers
+unfolding bytes
+returns-then-are_numbers c =
+    load_read _ c.pieces-count.ensures c.if-count-lt3.false c.if-count.false c.begins_as.ensures c.are_numbers.ensures
+    c.if-begins_as.true c.if-are_numbers.true (c.unwrap_or.ensures ∙ ap (λ (r : Option ℕ). unwrap_or r 0) c.value_at.ensures)
 
-pub returns-then-good : goal.returns-then-good
-returns-then-good c =
-    load_read _ _ c.pieces-count.ensures (search rules) (search rules)
-    c.value_at-room.ensures c.begins_as.ensures
-    c.are_numbers.ensures c.if-good.true
-
-pub returns : goal.returns
-returns c =
-    c.bad_line-2.ensures ∙ load_read _ _ c.pieces-count.ensures
-    (search rules) (search rules) c.value_at-room.ensures
-    c.begins_as.ensures c.are_numbers.ensures c.if-good.false
+pub returns-else-begins_as : goal.returns-else-begins_as
+unfolding bytes
+returns-else-begins_as c =
+    load_refused _ c.pieces-count.ensures c.if-count-lt3.false c.if-count.false
+    (elim c.else-begins_as.branch [
+      | else-begins_as-via-then-begins_as+else-are_numbers w ↦ inr (sym w.if-are_numbers.ensures)
+      | else-begins_as-via-else-begins_as w ↦ inl (sym w.if-begins_as.ensures)
+    ])
