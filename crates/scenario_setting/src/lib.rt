@@ -1,15 +1,17 @@
 // The lines of a scenario that set a number of the table or the state.
 #![tactic(auto)]
 
-ghost use Rattle.std.specs.Prelude.{◌≡◌, ◌-◌, ◌≤◌, set as with};
-ghost use Rattle.scenario_lines.specs.Lines.{set_table, set_table_last};
-ghost use Rattle.scenario_setting.specs.Setting.{number_set, deadline_set, record_set, setting_place, state_after, table_after};
+ghost use Rattle.std.specs.Prelude.{◌≡◌, ◌<◌};
+ghost use Rattle.scenario_setting.specs.Setting.{number_set, deadline_set, record_set, setting_lines, setting_place, state_after, table_after};
 
 use plain_encoding::{EACH, FRONT, Numbers};
-use scenario_lines::{
-    Command, SET_CLOCK, SET_COUNT, SET_RECORD, SET_RECORD_LAST, SET_TABLE, SET_TABLE_LAST,
-};
+use scenario_lines::{Command, Verb};
 use service::MAX_SERVICES;
+
+// How many lines set a number of a record, and how many one of a service's settings.
+const RECORD_LINES: usize = 12;
+
+const SETTING_LINES: usize = 8;
 
 // The places of a deadline's two numbers among those of a record: whether there is one, and its time.
 const TIMED: usize = 5;
@@ -28,10 +30,8 @@ const PAST_AFTER: usize = 3;
 fn set_number(numbers: &mut Numbers, s: u64, place: usize, n: u64)
     ensures { numbers.new ≡ number_set numbers.old s place n }
 {
-    if s < MAX_SERVICES as u64 {
-        if place < EACH {
-            numbers[FRONT + EACH * s as usize + place] = n;
-        }
+    if s < MAX_SERVICES as u64 && place < EACH {
+        numbers[FRONT + EACH * s as usize + place] = n;
     }
 }
 
@@ -39,12 +39,10 @@ fn set_number(numbers: &mut Numbers, s: u64, place: usize, n: u64)
 fn set_deadline(state: &mut Numbers, s: u64, place: usize)
     ensures { state.new ≡ deadline_set state.old s place }
 {
-    if place == TIME {
-        set_number(state, s, TIMED, 1);
-    } else {
-        if place == TIMED {
-            set_number(state, s, TIME, 0);
-        }
+    match place {
+        TIME => set_number(state, s, TIMED, 1),
+        TIMED => set_number(state, s, TIME, 0),
+        _ => {}
     }
 }
 
@@ -58,48 +56,40 @@ fn set_record(state: &mut Numbers, s: u64, place: usize, n: u64)
 
 // The place of a number of a table among a service's, by that of its line among the lines that set one.
 fn setting_place(line: usize) -> usize
-    requires { line ≤ set_table_last - set_table }
+    requires { line < setting_lines }
     ensures { result ≡ setting_place line }
 {
     if line < BEFORE_SIGNAL {
-        return line + PAST_BEFORE;
+        line + PAST_BEFORE
+    } else {
+        line + PAST_AFTER
     }
-    line + PAST_AFTER
-}
-
-fn set_first(numbers: &mut Numbers, n: u64)
-    ensures { numbers.new ≡ with numbers.old 0 n }
-{
-    numbers[0] = n;
 }
 
 // Sets what a line sets of the state. The lines that set a record stand in the order of its numbers.
-fn set_state(state: &mut Numbers, verb: usize, s: u64, n: u64)
+fn set_state(state: &mut Numbers, verb: Verb, s: u64, n: u64)
     ensures { state.new ≡ state_after state.old verb s n }
 {
-    if verb == SET_CLOCK {
-        set_first(state, n);
-    } else {
-        if SET_RECORD <= verb {
-            if verb <= SET_RECORD_LAST {
-                set_record(state, s, verb - SET_RECORD, n);
-            }
-        }
+    match verb {
+        Verb::SetClock => state[0] = n,
+        Verb::SetRecord(place) if place < RECORD_LINES => set_record(state, s, place, n),
+        _ => {}
     }
 }
 
 // Sets what a line sets of the table.
-fn set_table(table: &mut Numbers, verb: usize, s: u64, n: u64)
+fn set_table(table: &mut Numbers, verb: Verb, s: u64, n: u64)
     ensures { table.new ≡ table_after table.old verb s n }
 {
-    if verb == SET_COUNT {
-        set_first(table, n);
-    } else {
-        if SET_TABLE <= verb {
-            if verb <= SET_TABLE_LAST {
-                set_number(table, s, setting_place(verb - SET_TABLE), n);
-            }
-        }
+    match verb {
+        Verb::SetCount => table[0] = n,
+        Verb::SetTable(line) if line < SETTING_LINES => set_number(
+            table,
+            s,
+            setting_place(line),
+            n,
+        ),
+        _ => {}
     }
 }
 
@@ -108,9 +98,7 @@ pub fn set(table: &mut Numbers, state: &mut Numbers, command: Command)
     ensures table_after { table.new ≡ table_after table.old command.verb command.first command.last }
     ensures state_after { state.new ≡ state_after state.old command.verb command.first command.last }
 {
-    let verb = command.verb;
-    let s = command.first;
-    let n = command.last;
-    set_table(table, verb, s, n);
-    set_state(state, verb, s, n);
+    let Command { verb, first, last } = command;
+    set_table(table, verb, first, last);
+    set_state(state, verb, first, last);
 }
