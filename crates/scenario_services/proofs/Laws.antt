@@ -1,105 +1,46 @@
--- What is kept: the loop over the bytes that fit, by what it has still to keep; then a name and a text, each case by itself.
-use mathlib.Core.Path.{◌≡◌, refl, sym, ap, ◌∙◌}
-use mathlib.Core.List.{List, [], ◌∷◌}
-use Prim.Native.Nat.{ℕ, zero, suc, ◌+◌, ◌-◌, ◌≤◌, ◌<◌, zero-le, suc-le-suc}
-use native.Mathlib.Numerals.{add-one}
-use native.Mathlib.Nat.{add-zero}
-use native.Mathlib.Omega.{arith}
-use lib.ListN.{length, get_or, set, take, drop, drop_of_length-le}
-use lib.Seq.{sets, drop-cons}
-use borrow.Author.Tests.{le-leb, lt-leb, lt-ltb, le-ltb}
+-- What is kept in the buffer, and what is lent of the positions.
+use Rattle.std.proofs.Common.{ℕ, ◌+◌, ◌-◌, ◌≤◌, ◌≡◌, inl, inr, refl, sym, Bool, true, false, leb, ◌∙◌, List, [], ◌∷◌, length, append_assoc, take, drop, Option, Some, None, Bor, arith}
+use borrow.Author.Tests.{le-leb, lt-leb}
+use borrow.Rule.Slice.PartMut.{put_mid}
+use Rattle.std.specs.Option.{unwrap_or}
+use Rattle.std.specs.Slice.{IsGetRangeResult}
+use Rattle.std.proofs.lemmas.List.Edits.{sets, sets-eq, paste_all}
+use Rattle.std.proofs.lemmas.Slice.{put_mid-paste}
+use Rattle.std.proofs.lemmas.Grind.{common_steps}
+use Rattle.base.specs.Folds.{pick}
 use Rattle.load_text.specs.Strings.{part_of}
+use Rattle.scenario_lines.specs.declared.Verb.{Verb}
+use Rattle.scenario_lines.specs.declared.Verb.TheVariants.{Load, LoadAt}
+use Rattle.scenario_services.specs.Lending.{lent_to}
 use Rattle.scenario_services.specs.declared.Given.{Given}
-use Rattle.scenario_services.specs.Keeping.{kept_services, kept_name, kept_text, room, held, fitting, Kept, name_end, text_end, after_name, after_text}
+use Rattle.scenario_services.specs.Keeping.{room, kept}
 
--- at most n of them are the first n
-pub take_few : (n : ℕ) (bs : List ℕ) → length (take n bs) ≤ n
-take_few zero bs = zero-le
-take_few (suc n) [] = zero-le
-take_few (suc n) (b ∷ bs) = suc-le-suc (take_few n bs)
+-- the buffer, when the part of it is back to which vs were copied
+pub put_sets : (a k : ℕ) (l ys vs : List ℕ) → ys ≡ vs → k ≡ length vs → a + length vs ≤ length l → put_mid a k l ys ≡ sets l a vs
+put_sets a k l ys vs e n h = put_mid-paste a k l ys vs k e refl n ∙ paste_all l a vs k n ∙ rw (n, ← append_assoc) (sym (sets-eq vs l a h))
 
--- from 0 to 0 there is nothing
-pub part_none : (l : List ℕ) → part_of l 0 0 ≡ []
+-- of no bytes
+pub sets_none : (l : List ℕ) (a : ℕ) (vs : List ℕ) → length vs ≡ 0 → l ≡ sets l a vs
+sets_none l a [] e = refl
+sets_none l a (v ∷ vs) e = absurd (omega (arith, e))
+
+-- g is h with this buffer, and fs are the bytes that fit
+pub kept_put : (h g : Given) (bs fs : List ℕ) {d : List ℕ} → g ≡ record h { buffer = d } → fs ≡ take (room - h.bytes) bs
+    → d ≡ sets h.buffer h.bytes fs → record g { bytes = h.bytes + length fs } ≡ kept bs h
+kept_put h g bs fs e f p = rw (e, p, f)
+
+-- a range of the positions, or none where it is not there
+pub ranged : (xs : List ℕ) (from to : ℕ) (r : Option (Bor (List ℕ))) (d : Bor (List ℕ)) → d.now ≡ [] → IsGetRangeResult xs from to r
+    → (unwrap_or r d).now ≡ part_of xs from to
 unfolding part_of
-part_none l = rw (le-leb 0 (length l) zero-le)
+ranged xs from to None d e (inl h, q) = rw (e, lt-leb from to h)
+ranged xs from to None d e (inr h, q) = rw e (by (leb from to))
+  where
+    by : (t : Bool) → [] ≡ pick t (pick (leb to (length xs)) (take (to - from) (drop from xs)) []) []
+    by true = rw (lt-leb to (length xs) h)
+    by false = refl
+ranged xs from to (Some x) d e h = rw (le-leb from to h.0.0, le-leb to (length xs) h.0.1) h.0.2
 
--- past the room nothing fits, and of nothing nothing does
-fitting_full : (to : ℕ) (bs : List ℕ) → room ≤ to → fitting to bs ≡ []
-unfolding fitting
-fitting_full to bs h =
-    let z : room - to ≡ 0 = omega arith in
-    rw z
-
-take_none : (n : ℕ) → take {A = ℕ} n [] ≡ []
-take_none zero = refl
-take_none (suc n) = refl
-
-fitting_none : (to : ℕ) (s : List ℕ) (i : ℕ) → length s ≤ i → fitting to (drop i s) ≡ []
-unfolding fitting
-fitting_none to s i h = rw (drop_of_length-le s h) (take_none (room - to))
-
-fitting_next : (to : ℕ) (s : List ℕ) (i : ℕ) → to < room → i < length s
-    → fitting to (drop i s) ≡ get_or s i 0 ∷ fitting (to + 1) (drop (i + 1) s)
-unfolding fitting
-fitting_next to s i h l =
-    let n : room - to ≡ suc (room - (to + 1)) = omega arith in
-    rw (n, add-one i, drop-cons s i 0 l)
-
--- to keep s from a place on in d₀ is to keep what is left of it from i on, from `to` on in d
-pub record Keeping (d₀ : List ℕ) (at : ℕ) (s d : List ℕ) (to i : ℕ) : Type 0 where
-  pub within : i ≤ length s
-  pub stores : sets d₀ at (fitting at s) ≡ sets d to (fitting to (drop i s))
-  pub places : at + length (fitting at s) ≡ to + length (fitting to (drop i s))
-
-pub keeping_none : {d : List ℕ} {at : ℕ} {s : List ℕ} → Keeping d at s d at 0
-keeping_none = record { within = zero-le; stores = refl; places = refl }
-
-module _ {d₀ : List ℕ} {at : ℕ} {s d : List ℕ} {to i : ℕ} (h : Keeping d₀ at s d to i) where
-  pub keeping_more : to < room → i < length s → Keeping d₀ at s (set d to (get_or s i 0)) (to + 1) (i + 1)
-  keeping_more r l = record {
-    within = omega arith;
-    stores = h.stores ∙ rw (fitting_next to s i r l, add-one to);
-    places = omega (arith, h.places, ap length (fitting_next to s i r l));
-  }
-
-  ended : fitting to (drop i s) ≡ [] → Kept d₀ at s d to
-  ended e = record { buffer = sym (h.stores ∙ rw e); next = sym (h.places ∙ rw e (add-zero to)) }
-
-  pub keeping_full : room ≤ to → Kept d₀ at s d to
-  keeping_full r = ended (fitting_full to (drop i s) r)
-
-  pub keeping_all : length s ≤ i → Kept d₀ at s d to
-  keeping_all l = ended (fitting_none to s i l)
-
-module _ (g : Given) (bs d p : List ℕ) where
-  -- a name, where one more service is kept; and one too many
-  pub name_kept : {kept d' : List ℕ} {to : ℕ} → g.begun < kept_services → kept ≡ take kept_name bs → Kept d g.bytes kept d' to
-      → held (record { begun = g.begun + 1; bytes = to; text = 0 }) d' (set (set p (name_end g.begun) to) (text_end g.begun) to)
-      ≡ after_name bs (held g d p)
-  unfolding after_name
-  name_kept l e k = rw (lt-ltb g.begun kept_services l, k.next, k.buffer, e)
-
-  pub name_not : kept_services ≤ g.begun → held (record { begun = kept_services + 1; bytes = g.bytes; text = 0 }) d p ≡ after_name bs (held g d p)
-  unfolding after_name
-  name_not l = rw (le-ltb g.begun kept_services l)
-
-  -- a text, where the last service is kept and its text is not full; and where not
-  pub text_kept : {kept d' : List ℕ} {to end : ℕ} → 1 ≤ g.begun → g.begun ≤ kept_services → g.text < kept_text
-      → kept ≡ take (kept_text - g.text) bs → Kept d g.bytes kept d' to → end ≡ to
-      → held (record { begun = g.begun; bytes = to; text = g.text + length kept }) d' (set p (text_end (g.begun - 1)) end)
-      ≡ after_text bs (held g d p)
-  unfolding after_text
-  text_kept some few l e k q =
-      rw (le-leb 1 g.begun some, le-leb g.begun kept_services few, lt-ltb g.text kept_text l, q, k.next, k.buffer, e)
-
-  pub text_none : g.begun < 1 → held g d p ≡ after_text bs (held g d p)
-  unfolding after_text
-  text_none l = rw (lt-leb 1 g.begun l)
-
-  pub text_past : 1 ≤ g.begun → kept_services < g.begun → held g d p ≡ after_text bs (held g d p)
-  unfolding after_text
-  text_past some l = rw (le-leb 1 g.begun some, lt-leb g.begun kept_services l)
-
-  pub text_full : 1 ≤ g.begun → g.begun ≤ kept_services → kept_text ≤ g.text → held g d p ≡ after_text bs (held g d p)
-  unfolding after_text
-  text_full some few l = rw (le-leb 1 g.begun some, le-leb g.begun kept_services few, le-ltb g.text kept_text l)
+-- of a line that is no load
+pub lent_none : (v : Verb) (p : List ℕ) (last n : ℕ) → (v ≡ Load → ⊥) → (v ≡ LoadAt → ⊥) → [] ≡ lent_to v p last n
+lent_none v p last n f g = grind (arith, common_steps)

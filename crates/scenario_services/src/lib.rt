@@ -3,15 +3,14 @@
 
 ghost use Rattle.std.specs.Prelude.{◌≡◌, ◌≤◌, length, take, set};
 ghost use Rattle.base.specs.Folds.{fold};
-ghost use Rattle.load_text.specs.Strings.{part_of};
 ghost use Rattle.load_text.specs.Lines.{line_of};
 ghost use Rattle.scenario_lines.specs.Lines.{most_positions};
-ghost use Rattle.scenario_services.specs.Keeping.{Kept, held, after_name, after_text, after_line};
-ghost use Rattle.scenario_services.specs.Lending.{least, position_of, with_positions, own_end, lent_positions};
+ghost use Rattle.scenario_services.specs.Keeping.{nothing_given, kept, after_name, after_text, after_line};
+ghost use Rattle.scenario_services.specs.Lending.{position_of, with_positions, own_end, lent_positions};
 
 use load_lent::MAX_TEXT;
 use load_text::{LONGEST_NAME, line_end, part, tail};
-use scenario_lines::{ADD_LINE, ADD_PIECE, BEGIN, Command, LOAD, LOAD_AT, MOST_POSITIONS};
+use scenario_lines::{Command, MOST_POSITIONS, Verb};
 use scenario_words::{number, piece};
 use service::MAX_SERVICES;
 
@@ -28,97 +27,22 @@ pub const ROOM: usize = KEPT_SERVICES * (KEPT_NAME + KEPT_TEXT);
 // The positions that a load is given, and from MOST_POSITIONS on those of the services given so far.
 pub const POSITIONS: usize = MOST_POSITIONS + 2 * KEPT_SERVICES;
 
-pub type Positions = [usize; POSITIONS];
-
-// Names and texts, as far as they are kept.
-pub type Buffer = [u8; ROOM];
-
-// How many services were begun, the kept bytes, and how many of these are the last service's text.
-#[derive(Clone, Copy)]
+// How many services were begun; how many bytes are kept, how many of these are the last service's text, and the names and texts, as far
+// as they are kept; and the positions.
+#[derive(Drop)]
 pub struct Given {
     pub begun: usize,
     pub bytes: usize,
     pub text: usize,
+    pub buffer: [u8; ROOM],
+    pub positions: [usize; POSITIONS],
 }
 
 // The first bytes of a text, no more than `most`.
 fn leading(bytes: &[u8], most: usize) -> &[u8]
     ensures { (result.now ≡ take most bytes.now) × (length result.now ≤ most) }
 {
-    if most <= bytes.len() {
-        &bytes[0..most]
-    } else {
-        bytes
-    }
-}
-
-// Puts bytes at a place of the buffer, as far as they fit, and answers the place after them.
-fn keep_bytes(buffer: &mut Buffer, at: usize, bytes: &[u8]) -> usize
-    ensures { Kept buffer.old at bytes.now buffer.new result }
-{
-    let mut to = at;
-    let mut i: usize = 0;
-    while i < bytes.len() {
-        if ROOM <= to {
-            return to;
-        }
-        buffer[to] = bytes[i];
-        to += 1;
-        i += 1;
-    }
-    to
-}
-
-// Begins a service: its name is kept, and its text is empty.
-fn begin(given: Given, name: &[u8], buffer: &mut Buffer, positions: &mut Positions) -> Given
-    ensures { held result buffer.new positions.new
-        ≡ after_name name.now (held given buffer.old positions.old) }
-{
-    let begun = given.begun;
-    if KEPT_SERVICES <= begun {
-        return Given {
-            begun: KEPT_SERVICES + 1,
-            bytes: given.bytes,
-            text: 0,
-        };
-    }
-    let kept = leading(name, KEPT_NAME);
-    let bytes = keep_bytes(buffer, given.bytes, kept);
-    positions[MOST_POSITIONS + 2 * begun] = bytes;
-    positions[MOST_POSITIONS + 1 + 2 * begun] = bytes;
-    Given {
-        begun: begun + 1,
-        bytes,
-        text: 0,
-    }
-}
-
-// Adds to the text of the service begun last, as far as it is kept.
-fn add_text(given: Given, added: &[u8], buffer: &mut Buffer, positions: &mut Positions) -> Given
-    ensures { held result buffer.new positions.new
-        ≡ after_text added.now (held given buffer.old positions.old) }
-{
-    let begun = given.begun;
-    let text = given.text;
-    if begun < 1 {
-        return given;
-    }
-    if KEPT_SERVICES < begun {
-        return given;
-    }
-    if KEPT_TEXT <= text {
-        return given;
-    }
-    let last = begun - 1;
-    let kept = leading(added, KEPT_TEXT - text);
-    let longer = text + kept.len();
-    let bytes = keep_bytes(buffer, given.bytes, kept);
-    positions[MOST_POSITIONS + 1 + 2 * last] = bytes;
-    Given {
-        begun,
-        bytes,
-        text: longer,
-    }
+    &bytes[..bytes.len().min(most)]
 }
 
 // A line without the newline that ends it.
@@ -128,93 +52,108 @@ pub fn bare(line: &[u8]) -> &[u8]
     part(line, 0, line_end(line, 0))
 }
 
-// What is given after a line, which is lent with the newline that ends it: a name, or a piece of a text with or without the newline.
-pub fn given_after(
-    given: Given,
-    verb: usize,
-    line: &[u8],
-    buffer: &mut Buffer,
-    positions: &mut Positions,
-) -> Given
-    ensures { held result buffer.new positions.new
-        ≡ after_line verb line.now (held given buffer.old positions.old) }
-{
-    if verb == BEGIN {
-        return begin(given, tail(bare(line), 8), buffer, positions);
-    }
-    if verb == ADD_LINE {
-        return add_text(given, tail(line, 1), buffer, positions);
-    }
-    if verb == ADD_PIECE {
-        return add_text(given, tail(bare(line), 1), buffer, positions);
-    }
-    given
-}
-
-// ---- the positions of a load
-
-fn least_of(a: usize, b: usize) -> usize
-    ensures { (result ≡ least a b) × (result ≤ b) }
-{
-    if a < b { a } else { b }
-}
-
-// Puts the positions that a line gives, which are its words from the third on, to the front.
-fn read_positions(line: &[u8], count: usize, positions: &mut Positions)
-    requires { count ≤ most_positions }
-    ensures { positions.new
-        ≡ fold (λ m i. set m i (position_of line.now i)) positions.old count }
-{
-    let mut i: usize = 0;
-    while i < count {
-        let read = number(piece(line, b' ', i + 2));
-        positions[i] = read.value as usize;
-        i += 1;
-    }
-}
-
-// Takes the positions of a line that gives them.
-pub fn take_positions(command: Command, line: &[u8], positions: &mut Positions)
-    ensures { positions.new ≡ with_positions command line.now positions.old }
-{
-    let count = least_of(command.last as usize, MOST_POSITIONS);
-    if command.verb == LOAD_AT {
-        read_positions(line, count, positions);
-    }
-}
-
-// The positions between two places, or none where they are not there.
-fn range(positions: &[usize], from: usize, end: usize) -> &[usize]
-    ensures { result.now ≡ part_of positions.now from end }
-{
-    if from <= end {
-        if end <= positions.len() {
-            &positions[from..end]
-        } else {
-            &positions[..0]
-        }
-    } else {
-        &positions[..0]
-    }
-}
-
 // Where the positions of the services' own ends themselves end.
 fn own_end(begun: usize) -> usize
     ensures { result ≡ own_end begun }
 {
-    MOST_POSITIONS + 2 * least_of(begun, KEPT_SERVICES)
+    MOST_POSITIONS + 2 * begun.min(KEPT_SERVICES)
 }
 
-// The positions that a load lends: those of the line, or the services' own.
-pub fn lent_positions(positions: &Positions, command: Command, begun: usize) -> &[usize]
-    ensures { result.now ≡ lent_positions positions.now command begun }
-{
-    let verb = command.verb;
-    if verb == LOAD {
-        return range(positions, MOST_POSITIONS, own_end(begun));
+impl Given {
+    // Nothing was given.
+    pub fn nothing() -> Given
+        ensures { result ≡ nothing_given }
+    {
+        Given {
+            begun: 0,
+            bytes: 0,
+            text: 0,
+            buffer: [0; ROOM],
+            positions: [0; POSITIONS],
+        }
     }
-    if verb == LOAD_AT {
-        return range(positions, 0, command.last as usize);
+
+    // Keeps bytes after those that are kept, as far as they fit.
+    fn keep(&mut self, bytes: &[u8])
+        ensures { self.new ≡ kept bytes.now self.old }
+    {
+        let fitting = leading(bytes, ROOM.saturating_sub(self.bytes));
+        let end = self.bytes + fitting.len();
+        if end <= ROOM {
+            self.buffer[self.bytes..end].copy_from_slice(fitting);
+        }
+        self.bytes = end;
     }
-    range(positions, 0, 0)
+
+    // Begins a service: its name is kept, and its text is empty.
+    fn begin(&mut self, name: &[u8])
+        ensures { self.new ≡ after_name name.now self.old }
+    {
+        self.text = 0;
+        if KEPT_SERVICES <= self.begun {
+            self.begun = KEPT_SERVICES + 1;
+            return;
+        }
+        self.keep(leading(name, KEPT_NAME));
+        self.positions[MOST_POSITIONS + 2 * self.begun] = self.bytes;
+        self.positions[MOST_POSITIONS + 1 + 2 * self.begun] = self.bytes;
+        self.begun += 1;
+    }
+
+    // Adds to the text of the service begun last, as far as it is kept.
+    fn add_text(&mut self, added: &[u8])
+        ensures { self.new ≡ after_text added.now self.old }
+    {
+        if self.begun < 1 || KEPT_SERVICES < self.begun || KEPT_TEXT <= self.text {
+            return;
+        }
+        let added = leading(added, KEPT_TEXT - self.text);
+        self.keep(added);
+        self.text += added.len();
+        self.positions[MOST_POSITIONS + 1 + 2 * (self.begun - 1)] = self.bytes;
+    }
+
+    // Takes what a line gives, which is lent with the newline that ends it: a name, or a piece of a text with or without the newline.
+    pub fn take_line(&mut self, verb: Verb, line: &[u8])
+        ensures { self.new ≡ after_line verb line.now self.old }
+    {
+        match verb {
+            Verb::Begin => self.begin(tail(bare(line), 8)),
+            Verb::AddLine => self.add_text(tail(line, 1)),
+            Verb::AddPiece => self.add_text(tail(bare(line), 1)),
+            _ => {}
+        }
+    }
+
+    // Puts the positions that a line gives, which are its words from the third on, to the front.
+    fn read_positions(&mut self, line: &[u8], count: usize)
+        requires { count ≤ most_positions }
+        ensures { self.new
+            ≡ record self.old { positions = fold (λ m i. set m i (position_of line.now i)) self.old.positions count } }
+    {
+        for i in 0..count {
+            self.positions[i] = number(piece(line, b' ', i + 2)).unwrap_or(0) as usize;
+        }
+    }
+
+    // Takes the positions of a line that gives them.
+    pub fn take_positions(&mut self, command: Command, line: &[u8])
+        ensures { self.new ≡ record self.old { positions = with_positions command line.now self.old.positions } }
+    {
+        if command.verb == Verb::LoadAt {
+            self.read_positions(line, (command.last as usize).min(MOST_POSITIONS));
+        }
+    }
+
+    // The positions that a load lends: those of the line, or the services' own.
+    pub fn lent_positions(&self, command: Command) -> &[usize]
+        ensures { result.now ≡ lent_positions self.now.positions command self.now.begun }
+    {
+        let lent = match command.verb {
+            Verb::Load => self.positions.get(MOST_POSITIONS..own_end(self.begun)),
+            Verb::LoadAt => self.positions.get(..command.last as usize),
+            _ => None,
+        };
+        lent.unwrap_or(&[])
+    }
 }
