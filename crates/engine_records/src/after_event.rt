@@ -6,7 +6,8 @@ ghost use Rattle.service.specs.Records.{is_none, with_cause};
 ghost use Rattle.rules.specs.Events.{revived_cause, started_as, stopped_phase, stopped, dead, started_up, brings, ended_as};
 ghost use Rattle.engine_records.specs.Sound.{sound};
 
-use crate::settling::{at_rest, either, is_sound, settle};
+use crate::moment::Moment;
+use crate::settling::{at_rest, either};
 use service::{Cause, Phase, Record, Settings};
 
 // User or failed becomes released.
@@ -90,24 +91,41 @@ fn fallen(d: Record, c: Cause) -> Record
     }
 }
 
-// The record after the end of its process; one whose times are out of range is left as it is.
-pub fn end_record(v: Settings, now: u64, good: bool, r: Record) -> Record
-    ensures { result ≡ pick (sound v now r) (ended_as r.phase v now (brings v good) r) r }
-{
-    if is_sound(v, now, r) {
+impl Moment {
+    // The record after the end of its process.
+    fn ended(self, good: bool) -> Record
+        ensures { result ≡ ended_as self.found.phase self.settings self.now (brings self.settings good) self.found }
+    {
+        let r = self.found;
         let d = dead_record(r);
-        return match r.phase {
+        match r.phase {
             Phase::Down | Phase::Waiting => d,
             Phase::Starting => {
-                if brings_up(v, good) {
+                if brings_up(self.settings, good) {
                     started_up(d)
                 } else {
                     at_rest(false, true, d)
                 }
             }
             Phase::Up => fallen(d, r.cause),
-            Phase::Ending => settle(v, now, d),
-        };
+            Phase::Ending => {
+                let dead = Moment {
+                    settings: self.settings,
+                    now: self.now,
+                    found: d,
+                };
+                dead.settled()
+            }
+        }
     }
-    r
+}
+
+// The record after the end of its process; one whose times are out of range is left as it is.
+pub fn end_record(v: Settings, now: u64, good: bool, r: Record) -> Record
+    ensures { result ≡ pick (sound v now r) (ended_as r.phase v now (brings v good) r) r }
+{
+    match Moment::at(v, now, r) {
+        Some(m) => m.ended(good),
+        None => r,
+    }
 }

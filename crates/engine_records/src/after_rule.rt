@@ -1,13 +1,14 @@
 // What each rule leaves of one service's record.
 ghost use Rattle.std.specs.Prelude.{◌≡◌, true, false, ◌≤◌};
 ghost use Rattle.base.specs.Folds.{pick};
-ghost use Rattle.service.specs.declared.Cause.TheVariants.{User, Fell, Failed};
+ghost use Rattle.service.specs.declared.Cause.TheVariants.{User, Fell};
 ghost use Rattle.service.specs.Limits.{longest_time, last_clock};
-ghost use Rattle.service.specs.Records.{is_starting, is_user, moved, with_cause, with_launch, with_live};
+ghost use Rattle.service.specs.Records.{is_starting, moved, with_cause, with_launch, with_live};
 ghost use Rattle.rules.specs.Rules.{deadline_in, abandoned, released, begun, ending, expired, left_by};
-ghost use Rattle.engine_records.specs.Sound.{sound, Sound};
+ghost use Rattle.engine_records.specs.Sound.{sound};
 
-use crate::settling::{is_sound, settle};
+use crate::moment::Moment;
+use crate::settling::either;
 use rules::Rule;
 use service::{Cause, Form, Phase, Record, Settings};
 
@@ -20,22 +21,6 @@ fn deadline_in(now: u64, timeout: u64) -> Option<u64>
         return None;
     }
     Some(now + timeout)
-}
-
-fn user_or_fell(user: bool) -> Cause
-    ensures { result ≡ pick user User Fell }
-{
-    if user { Cause::User } else { Cause::Fell }
-}
-
-fn user_or_failed(c: Cause) -> Cause
-    ensures { result ≡ pick (is_user c) User Failed }
-{
-    if c == Cause::User {
-        Cause::User
-    } else {
-        Cause::Failed
-    }
 }
 
 // Rule 2: down, aside, wanted off.
@@ -79,93 +64,90 @@ fn launched(p: Phase, live: bool, d: Option<u64>, now: u64, r: Record) -> Record
     }
 }
 
-// Rule 6.
-fn begin(v: Settings, now: u64, r: Record) -> Record
-    requires { Sound v now r }
-    ensures { result ≡ begun v now r }
-{
-    let old = r.deadline;
-    let new = deadline_in(now, v.start_timeout);
-    match v.form() {
-        Form::Bare => launched(Phase::Up, r.live, old, now, r),
-        Form::Direct => launched(Phase::Up, true, old, now, r),
-        Form::Passing | Form::Delayed => launched(Phase::Starting, true, new, now, r),
-    }
-}
-
-// Rule 7: ending, live, stop deadline.
-fn end(v: Settings, now: u64, r: Record) -> Record
-    requires { Sound v now r }
-    ensures { result ≡ ending v now r }
-{
-    let phase = Phase::Ending;
-    Record {
-        phase,
-        live: true,
-        deadline: deadline_in(now, v.stop_timeout),
-        ..r
-    }
-}
-
-// Rule 8 where the service was starting.
-fn time_out(v: Settings, now: u64, r: Record) -> Record
-    requires { Sound v now r }
-    ensures { result ≡ expired true v now r }
-{
-    Record {
-        phase: Phase::Ending,
-        cause: user_or_failed(r.cause),
-        deadline: deadline_in(now, v.stop_timeout),
-        ..r
-    }
-}
-
-// Rule 8 where it was ending.
-fn kill(v: Settings, now: u64, r: Record) -> Record
-    ensures { result ≡ expired false v now r }
-{
-    Record {
-        phase: Phase::Ending,
-        killed: true,
-        ..r
-    }
-}
-
-fn expire(v: Settings, now: u64, r: Record) -> Record
-    requires { Sound v now r }
-    ensures { result ≡ expired (is_starting r.phase) v now r }
-{
-    if r.phase == Phase::Starting {
-        return time_out(v, now, r);
-    }
-    kill(v, now, r)
-}
-
 fn lose(user: bool, r: Record) -> Record
     ensures { result ≡ with_cause (pick user User Fell) r }
 {
     Record {
-        cause: user_or_fell(user),
+        cause: either(user, Cause::User, Cause::Fell),
         ..r
     }
 }
 
-fn leave_sound(k: Rule, user: bool, v: Settings, now: u64, r: Record) -> Record
-    requires { Sound v now r × (sound v now r ≡ true) }
-    ensures { result ≡ left_by k user v now r }
-{
-    match k {
-        Rule::Lose => lose(user, r),
-        Rule::Abandon => abandon(r),
-        Rule::Settle => settle(v, now, r),
-        Rule::Wake => Record {
-            phase: Phase::Waiting,
-            ..r
-        },
-        Rule::Release => release(r),
-        Rule::Begin => begin(v, now, r),
-        Rule::End => end(v, now, r),
-        Rule::Expire => expire(v, now, r),
+impl Moment {
+    // Rule 6.
+    fn begun(self) -> Record
+        ensures { result ≡ begun self.settings self.now self.found }
+    {
+        let v = self.settings;
+        let now = self.now;
+        let r = self.found;
+        let old = r.deadline;
+        let new = deadline_in(now, v.start_timeout);
+        match v.form() {
+            Form::Bare => launched(Phase::Up, r.live, old, now, r),
+            Form::Direct => launched(Phase::Up, true, old, now, r),
+            Form::Passing | Form::Delayed => launched(Phase::Starting, true, new, now, r),
+        }
+    }
+
+    // Rule 7: ending, live, stop deadline.
+    fn ending(self) -> Record
+        ensures { result ≡ ending self.settings self.now self.found }
+    {
+        let phase = Phase::Ending;
+        Record {
+            phase,
+            live: true,
+            deadline: deadline_in(self.now, self.settings.stop_timeout),
+            ..self.found
+        }
+    }
+
+    // Rule 8 where the service was starting.
+    fn timed_out(self) -> Record
+        ensures { result ≡ expired true self.settings self.now self.found }
+    {
+        let user = self.found.cause == Cause::User;
+        Record {
+            phase: Phase::Ending,
+            cause: either(user, Cause::User, Cause::Failed),
+            deadline: deadline_in(self.now, self.settings.stop_timeout),
+            ..self.found
+        }
+    }
+
+    // Rule 8.
+    fn expired(self) -> Record
+        ensures { result ≡ expired (is_starting self.found.phase) self.settings self.now self.found }
+    {
+        if self.found.phase == Phase::Starting {
+            return self.timed_out();
+        }
+        Record {
+            phase: Phase::Ending,
+            killed: true,
+            ..self.found
+        }
+    }
+
+    // The record that a rule leaves.
+    fn left(self, k: Rule, user: bool) -> Record
+        ensures { result ≡ left_by k user self.settings self.now self.found }
+    {
+        let r = self.found;
+        match k {
+            Rule::Lose => lose(user, r),
+            Rule::Abandon => abandon(r),
+            Rule::Settle => self.settled(),
+            Rule::Wake => Record {
+                phase: Phase::Waiting,
+                ..r
+            },
+            Rule::Release => release(r),
+            Rule::Begin => self.begun(),
+            Rule::End => self.ending(),
+            Rule::Expire => self.expired(),
+        }
     }
 }
 
@@ -173,8 +155,8 @@ fn leave_sound(k: Rule, user: bool, v: Settings, now: u64, r: Record) -> Record
 pub fn leave(k: Rule, user: bool, v: Settings, now: u64, r: Record) -> Record
     ensures { result ≡ pick (sound v now r) (left_by k user v now r) r }
 {
-    if is_sound(v, now, r) {
-        return leave_sound(k, user, v, now, r);
+    match Moment::at(v, now, r) {
+        Some(m) => m.left(k, user),
+        None => r,
     }
-    r
 }

@@ -3,6 +3,7 @@
 
 mod after_event;
 mod after_rule;
+mod moment;
 mod settling;
 
 pub use after_event::{end_record, start_record, stop_record};
