@@ -3,14 +3,12 @@ use Rattle.std.proofs.Common.{Option, Some, Result, Ok, Err, IfErr, MatchResult}
 use native.Mathlib.Omega.{arith}
 use mathlib.Core.Path.{◌≡◌, refl, sym, ap, subst}
 use mathlib.Core.List.{List}
-use Prim.Native.Nat.{ℕ, ◌+◌, ◌≤◌, ◌<◌}
+use Prim.Native.Nat.{ℕ, ◌+◌, ◌-◌, ◌<◌}
 use lib.ListN.{length, drop, length-drop}
-use Rattle.load_text.specs.Bytes.{is_white}
-use Rattle.load_text.specs.Lines.{fault, opening, white_end}
+use Rattle.load_text.specs.Lines.{fault, opening}
 use Rattle.load_text.specs.declared.Fault.{Fault}
 use Rattle.load_text.specs.declared.Places.{Places}
 use Rattle.load_text.proofs.Lines.{Inside, opening_inside}
-use Rattle.load_text.proofs.Runs.{run_within}
 use Rattle.load_value.specs.Values.{scan_of}
 use Rattle.load_value.specs.declared.Sizes.{Sizes}
 use Rattle.load_value.proofs.Scans.{ScanInside, scan_inside}
@@ -28,26 +26,22 @@ module _ {T : Type 0} (from : ℕ) where
   told_err (Ok y) h = absurd (cc)
   told_err (Err f) h = (f, refl, cc)
 
--- offsets in the line that begins at `from`, which ends below 2^63: a fault of how it begins, past the white space of its value, and the value's fault
-module _ (from : ℕ) (l : List ℕ) (n : from + length l < 9223372036854775808) where
-  pub opening_fits : {r : Result (Option Places) Fault} → r ≡ opening l → IfErr r (λ f. from + f.at < 18446744073709551616)
-  opening_fits {r} e = by r (subst (Inside (length l)) (sym e) (opening_inside l))
-    where
-      by : (r : Result (Option Places) Fault) → Inside (length l) r → IfErr r (λ f. from + f.at < 18446744073709551616)
-      by (Ok o) h = tt
-      by (Err f) h = omega arith
+-- a fault of how a line begins is within the line, and that of a value within its part of it: told from an offset it fits
+pub opening_fits : (from : ℕ) (l : List ℕ) {r : Result (Option Places) Fault} → from + length l < 18446744073709551616 → r ≡ opening l
+    → IfErr r (λ f. from + f.at < 18446744073709551616)
+opening_fits from l {r} n e = by r (subst (Inside (length l)) (sym e) (opening_inside l))
+  where
+    by : (r : Result (Option Places) Fault) → Inside (length l) r → IfErr r (λ f. from + f.at < 18446744073709551616)
+    by (Ok o) h = tt
+    by (Err f) h = omega arith
 
-  module _ (v : ℕ) (h : v ≤ length l) where
-    pub seen_fits : {w : ℕ} → w ≡ white_end l v → from + w < 18446744073709551616
-    seen_fits e = omega (arith, run_within is_white l v h e)
-
-    pub value_fits : {value : List ℕ} {r : Result Sizes Fault} → value ≡ drop v l → r ≡ scan_of value
-        → IfErr r (λ f. from + v + f.at < 18446744073709551616)
-    value_fits {value} {r} p e = by r (subst (ScanInside (length value)) (sym e) (scan_inside value))
-      where
-        by : (r : Result Sizes Fault) → ScanInside (length value) r → IfErr r (λ f. from + v + f.at < 18446744073709551616)
-        by (Ok z) i = tt
-        by (Err f) i = omega (arith, i, ap length p, length-drop v l)
+pub value_fits : (from : ℕ) (l : List ℕ) (v : ℕ) {value : List ℕ} {r : Result Sizes Fault} → from + (length l - v) < 18446744073709551616
+    → value ≡ drop v l → r ≡ scan_of value → IfErr r (λ f. from + f.at < 18446744073709551616)
+value_fits from l v {value} {r} n p e = by r (subst (ScanInside (length value)) (sym e) (scan_inside value))
+  where
+    by : (r : Result Sizes Fault) → ScanInside (length value) r → IfErr r (λ f. from + f.at < 18446744073709551616)
+    by (Ok z) i = tt
+    by (Err f) i = omega (arith, i, ap length p, length-drop v l)
 
 -- the places of a line that begins with a name
 pub opened : (l : List ℕ) {s : Places} → opening l ≡ Ok (Some s) → Inside (length l) (Ok (Some s))

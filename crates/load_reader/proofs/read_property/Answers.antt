@@ -1,17 +1,22 @@
 -- `read_property` meets its contract: every offset is within the line.
 use Rattle.std.proofs.Common.{rules, ◌≡◌, ◌+◌, Ok, Err, sym, ◌∙◌}
+use native.Mathlib.Omega.{arith}
+use Rattle.load_text.specs.Bytes.{is_white}
+use Rattle.load_text.proofs.Runs.{run_within}
 use Rattle.load_value.specs.Values.{scan_of}
 use Rattle.load_description.specs.Lines.{property_read}
-use Rattle.load_reader.proofs.Properties.{seen_fits, value_fits, told_ok, told_err}
+use Rattle.load_reader.proofs.Properties.{value_fits, told_ok, told_err}
 use Rattle.load_reader.proofs.read_property.Goals as goal
 
 pub overflow_add-start-2 : goal.overflow_add-start-2
-overflow_add-start-2 c = record { fits = search seen_fits }
+overflow_add-start-2 c =
+    let a = c.args in
+    record { fits = omega (arith, run_within is_white a.line.now a.s.value c.requires.1.1 c.white_end.ensures) }
 
 pub told_from-requires : goal.told_from-requires
 told_from-requires c =
     let a = c.args in
-    value_fits a.from a.line.now c.requires.0 a.s.value c.requires.1.1 c.tail-value.ensures c.scan_value.ensures
+    value_fits _ a.line.now a.s.value (omega arith) c.tail-value.ensures c.scan_value.ensures
 
 pub returns-in_err-sizes : goal.returns-in_err-sizes
 unfolding property_read
