@@ -1,78 +1,41 @@
 -- From what a call gave with the table and the state that were read, to what the numbers are then.
 use Prim.Native.Nat.{ℕ}
-use mathlib.Core.Bool.{Bool, false, not, true}
+use mathlib.Core.Bool.{Bool, false, true}
 use mathlib.Core.List.{List}
-use mathlib.Core.Path.{◌≡◌, refl, sym, ap, ◌∙◌}
-use lib.Dec.{eqb}
+use mathlib.Core.Path.{◌≡◌, refl, ap, ◌∙◌}
+use Rattle.std.specs.Prelude.{Option, Result, Ok, Err}
+use Rattle.std.specs.Result.{IsErrAnd, IsOkAnd, MatchResult, result_map_both}
 use Rattle.base.specs.Folds.{pick}
-use Rattle.base.proofs.Tests.{not_false, not_true}
-use Rattle.service.specs.Numbers.{action_number, action_service, is_quiet, refusal_number}
 use Rattle.service.specs.declared.Action.{Action}
-use Rattle.std.specs.Prelude.{Err, Ok, Option, Result}
 use Rattle.service.specs.declared.Answered.{Answered}
 use Rattle.service.specs.declared.Refusal.{Refusal}
-use Rattle.service.specs.declared.Refusal.TheVariants.{IllFormed, NoService, NotLive, ClockBack, ClockPast, NoRoom}
 use Rattle.service.specs.declared.State.{State}
 use Rattle.service.specs.declared.Table.{Table}
-use Rattle.rules.specs.Calls.{Answer, Call, Outcome, acted, check, done, gives, lent_actions, lent_services, next, outcome, query, ran, refused, run, told}
+use Rattle.rules.specs.Calls.{Answer, Call, Outcome, check, gives, lent_actions, lent_services, next, outcome, query, refused, run}
 use Rattle.rules.specs.Calls.{action_answer, changed_outcome, event_answer, query_answer, query_outcome, ran_outcome, run_answer, stepped_outcome}
 use Rattle.rules.specs.Demand.{is_refused}
 use Rattle.plain_encoding.specs.Numbers.{state_numbers, state_of, table_of}
-use Rattle.plain.specs.Calls.{Called, Written, asked_of, call_of, meant, next_of, numbers_after, on, refusal_of, run_of}
-use Rattle.plain.specs.declared.forms.Event.{Event}
-use Rattle.plain.specs.declared.forms.Next.{Next}
-use Rattle.plain.specs.declared.forms.Run.{Run}
-use Rattle.plain.specs.declared.forms.Asked.{Asked}
+use Rattle.plain.specs.Calls.{Called, Written, asked_of, event_of, handed_of, meant, next_of, numbers_after, on, run_of}
+use Rattle.plain.specs.Told.{checked, numbered, state_kept}
+use Rattle.plain.specs.declared.forms.Handed.{Handed}
 
--- ---- a refusal's number is not 0
+-- what the check of the numbers found
+pub found_good : (b : Bool) → ◌≡◌ {A = Result (Unit {0}) ℕ} (Ok tt) (checked b) → b ≡ true
+found_good true e = refl
+found_good false e = cc
 
-abbrev Told : Answer → Type 0
-Told a = (l m : List ℕ) → pick (eqb (refusal_of a) 0) m l ≡ pick (is_refused a) l m
+pub found_bad : (b : Bool) {k : ℕ} → ◌≡◌ {A = Result (Unit {0}) ℕ} (Err k) (checked b) → (b ≡ false) × (k ≡ 24)
+found_bad true e = cc
+found_bad false e = (refl, cc)
 
-refusal_told : (k : Refusal) (l m : List ℕ) → pick (eqb (refusal_number k) 0) m l ≡ l
-refusal_told IllFormed l m = refl
-refusal_told NoService l m = refl
-refusal_told NotLive l m = refl
-refusal_told ClockBack l m = refl
-refusal_told ClockPast l m = refl
-refusal_told NoRoom l m = refl
+-- ---- a call with numbers that stand for nothing
 
-event_told : (a : Result (Unit {0}) Refusal) → Told (event_answer a)
-event_told (Ok _) l m = refl
-event_told (Err k) l m = refusal_told k l m
-
-action_told : (a : Result Action Refusal) → Told (action_answer a)
-action_told (Ok a) l m = refl
-action_told (Err k) l m = refusal_told k l m
-
-run_told : (a : Result ℕ Refusal) → Told (run_answer a)
-run_told (Ok n) l m = refl
-run_told (Err k) l m = refusal_told k l m
-
--- ---- and stands in each answer
-
-next_refusal : (a : Answer) → (next_of a).refusal ≡ refusal_of a
-next_refusal (refused k) = refl
-next_refusal done = refl
-next_refusal (acted a) = refl
-next_refusal (ran n) = refl
-next_refusal (told d) = refl
-
-run_refusal : (a : Answer) → (run_of a).refusal ≡ refusal_of a
-run_refusal (refused k) = refl
-run_refusal done = refl
-run_refusal (acted a) = refl
-run_refusal (ran n) = refl
-run_refusal (told d) = refl
-
--- ---- a call with numbers that stand for nothing, b being what the code found
-
-module _ (t l : List ℕ) (c : Call) {b : Bool} (e : b ≡ meant t l) (n : not b ≡ true) where
-  is_nothing : gives c (refused 24) (state_of l) ≡ on t l c
+module _ (t l : List ℕ) (c : Call) {k : ℕ} (h : (meant t l ≡ false) × (k ≡ 24)) where
+  is_nothing : gives c (refused k) (state_of l) ≡ on t l c
   unfolding check
-  is_nothing = rw (sym e ∙ (not_true b).0 n)
+  is_nothing = rw (h.0, h.1)
 
-  pub nothing_called : {A : Type 0} (tell : Answer → A) {r : A} → r ≡ tell (refused 24) → Called tell (on t l c) l r l
+  pub nothing_called : {A : Type 0} (tell : Answer → A) {r : A} → r ≡ tell (refused k) → Called tell (on t l c) l r l
   nothing_called tell q = record {
     answer = q ∙ ap (λ (z : Outcome). tell z.answer) is_nothing;
     state = ap (λ (z : Outcome). numbers_after l z) is_nothing;
@@ -82,72 +45,90 @@ module _ (t l : List ℕ) (c : Call) {b : Bool} (e : b ≡ meant t l) (n : not b
   nothing_written =
       record { services = ap (λ (z : Outcome). z.services) is_nothing; actions = ap (λ (z : Outcome). z.actions) is_nothing }
 
-  pub nothing_asked : {r : Asked} → r ≡ asked_of (refused 24) → r ≡ asked_of (on t l c).answer
+  pub nothing_asked : {r : Result (Option ℕ) ℕ} → r ≡ Err k → r ≡ asked_of (on t l c).answer
   nothing_asked q = q ∙ ap (λ (z : Outcome). asked_of z.answer) is_nothing
 
--- ---- the numbers after a call that gave the outcome o
+-- ---- a call that gave the outcome o with the table and the state that were read
 
--- table and state were read of numbers that stand for them, b being what the code found
-pub record Told-by (t l : List ℕ) (T : Table) (X : State) (b : Bool) : Type 0 where
-  pub found : b ≡ meant t l
-  pub holds : not b ≡ false
-  pub table : T ≡ table_of t
-  pub state : X ≡ state_of l
-
-module _ (t l : List ℕ) {T : Table} {X : State} {b : Bool} (c : Call) (o : Outcome) (k : Told-by t l T X b) (h : o ≡ outcome T X c) where
-  is_on : o ≡ on t l c
+module _ (t l : List ℕ) {T : Table} {X : State} (m : meant t l ≡ true) (p : T ≡ table_of t) (q : X ≡ state_of l) where
+  is_on : (c : Call) {o : Outcome} → o ≡ outcome T X c → o ≡ on t l c
   unfolding check
-  is_on =
-      h ∙ ap (λ (v : Table). outcome v X c) k.table ∙ ap (λ (x : State). outcome (table_of t) x c) k.state
-      ∙ rw (sym k.found ∙ (not_false b).0 k.holds)
+  is_on c h =
+      h ∙ ap (λ (v : Table). outcome v X c) p ∙ ap (λ (x : State). outcome (table_of t) x c) q ∙ rw m
 
-  is_kept : {A : Type 0} (tell : Answer → A) → Told o.answer → {r : A} {n : ℕ} {m : List ℕ} → r ≡ tell o.answer
-      → n ≡ refusal_of o.answer → m ≡ pick (eqb n 0) (state_numbers l o.state) l → Called tell (on t l c) l r m
-  is_kept tell a q w p = record {
-    answer = q ∙ ap (λ (z : Outcome). tell z.answer) is_on;
-    state =
-        p ∙ ap (λ (i : ℕ). pick (eqb i 0) (state_numbers l o.state) l) w
-        ∙ a l (state_numbers l o.state)
-        ∙ ap (λ (z : Outcome). numbers_after l z) is_on;
+  called : {A : Type 0} (tell : Answer → A) (c : Call) {o : Outcome} → o ≡ outcome T X c → {r : A} {n : List ℕ}
+      → r ≡ tell o.answer → n ≡ numbers_after l o → Called tell (on t l c) l r n
+  called tell c h e f = record {
+    answer = e ∙ ap (λ (z : Outcome). tell z.answer) (is_on c h);
+    state = f ∙ ap (λ (z : Outcome). numbers_after l z) (is_on c h);
   }
 
--- ---- the events
+-- ---- what the engine answered, and what is told of it
 
-pub changed_as : (t : Table) (x : State) {d e : Event} {o : Outcome} → d ≡ e → o ≡ outcome t x (call_of e) → o ≡ outcome t x (call_of d)
-changed_as t x q h = h ∙ sym (ap (λ (e : Event). outcome t x (call_of e)) q)
+event_told : (a : Result (Unit {0}) Refusal) → numbered a ≡ event_of (event_answer a)
+event_told (Ok u) = refl
+event_told (Err k) = refl
 
--- ---- an action in numbers
+event_left : (l : List ℕ) (a : Result (Unit {0}) Refusal) (x : State) → state_kept l a x ≡ pick (is_refused (event_answer a)) l (state_numbers l x)
+event_left l (Ok u) x = refl
+event_left l (Err k) x = refl
 
-pub acted_as : {d : (Result Action Refusal)} {a : Action} {q : Bool} {s n : ℕ} → d ≡ Ok a → q ≡ is_quiet a → s ≡ action_service a → n ≡ action_number a
-    → record { refusal = 0; quiet = q; service = s; action = n } ≡ next_of (action_answer d)
-acted_as e q s n = rw (e, q, s, n)
+next_told : (a : Result Action Refusal) → result_map_both handed_of (λ k. k) (numbered a) ≡ next_of (action_answer a)
+next_told (Ok a) = refl
+next_told (Err k) = refl
+
+next_left : (l : List ℕ) (a : Result Action Refusal) (x : State) → state_kept l a x ≡ pick (is_refused (action_answer a)) l (state_numbers l x)
+next_left l (Ok a) x = refl
+next_left l (Err k) x = refl
+
+run_told : (a : Result ℕ Refusal) → result_map_both (λ n. n) (λ k. k) (numbered a) ≡ run_of (run_answer a)
+run_told (Ok n) = refl
+run_told (Err k) = refl
+
+run_left : (l : List ℕ) (a : Result ℕ Refusal) (x : State) → state_kept l a x ≡ pick (is_refused (run_answer a)) l (state_numbers l x)
+run_left l (Ok n) x = refl
+run_left l (Err k) x = refl
+
+query_told : (a : Result (Option ℕ) Refusal) → numbered a ≡ asked_of (query_answer a)
+query_told (Ok d) = refl
+query_told (Err k) = refl
+
+-- what `map` and `map_err` give, where the closure gives f of its argument
+pub mapped : {A B E : Type 0} (f : A → B) {P : A → B → Type 0} (s : Result A E) (r : Result B E) → ((a : A) (b : B) → P a b → b ≡ f a)
+    → MatchResult s (λ a. IsOkAnd r (P a)) (λ e. r ≡ Err e) → r ≡ result_map_both f (λ k. k) s
+mapped f (Ok a) (Ok b) g h = ap Ok (g a b h)
+mapped f (Ok a) (Err e) g h = absurd h
+mapped f (Err e) r g h = h
+
+pub mapped_err : {A E D : Type 0} (f : E → D) {P : E → D → Type 0} (s : Result A E) (r : Result A D) → ((e : E) (d : D) → P e d → d ≡ f e)
+    → MatchResult s (λ a. r ≡ Ok a) (λ e. IsErrAnd r (P e)) → r ≡ result_map_both (λ a. a) f s
+mapped_err f (Ok a) r g h = h
+mapped_err f (Err e) (Err d) g h = ap Err (g e d h)
+mapped_err f (Err e) (Ok a) g h = absurd h
 
 -- ---- the calls
 
-module _ (t l : List ℕ) {T : Table} {X : State} {b : Bool} (k : Told-by t l T X b) where
-  pub event_kept : (c : Call) (y : Answered (Unit {0})) → changed_outcome y ≡ outcome T X c → {n : ℕ} {m : List ℕ}
-      → n ≡ refusal_of (event_answer y.answer) → m ≡ pick (eqb n 0) (state_numbers l y.state) l → Called refusal_of (on t l c) l n m
-  event_kept c y h q p = is_kept t l c (changed_outcome y) k h refusal_of (event_told y.answer) q q p
+module _ (t l : List ℕ) {T : Table} {X : State} (m : meant t l ≡ true) (p : T ≡ table_of t) (q : X ≡ state_of l) where
+  pub event_called : (c : Call) (y : Answered (Unit {0})) → changed_outcome y ≡ outcome T X c → {r : Result (Unit {0}) ℕ} {n : List ℕ}
+      → r ≡ numbered y.answer → n ≡ state_kept l y.answer y.state → Called event_of (on t l c) l r n
+  event_called c y h e f =
+      called t l m p q event_of c h (e ∙ event_told y.answer) (f ∙ event_left l y.answer y.state)
 
-  pub next_kept : (y : Answered Action) → stepped_outcome y ≡ outcome T X next → {r : Next} {m : List ℕ}
-      → r ≡ next_of (action_answer y.answer) → m ≡ pick (eqb r.refusal 0) (state_numbers l y.state) l
-      → Called next_of (on t l next) l r m
-  next_kept y h q p =
-      is_kept t l next (stepped_outcome y) k h next_of (action_told y.answer) q
-      (ap (λ (r : Next). r.refusal) q ∙ next_refusal (action_answer y.answer)) p
+  pub next_called : (y : Answered Action) → stepped_outcome y ≡ outcome T X next → {r : Result (Option Handed) ℕ} {n : List ℕ}
+      → r ≡ result_map_both handed_of (λ k. k) (numbered y.answer) → n ≡ state_kept l y.answer y.state → Called next_of (on t l next) l r n
+  next_called y h e f =
+      called t l m p q next_of next h (e ∙ next_told y.answer) (f ∙ next_left l y.answer y.state)
 
   module _ (ss as' : List ℕ) (y : Answered ℕ) {ss₁ as₁ : List ℕ} (h : ran_outcome y ss₁ as₁ ≡ outcome T X (run ss as')) where
-    pub run_kept : {r : Run} {m : List ℕ} → r ≡ run_of (run_answer y.answer) → m ≡ pick (eqb r.refusal 0) (state_numbers l y.state) l
-        → Called run_of (on t l (run ss as')) l r m
-    run_kept q p =
-        is_kept t l (run ss as') (ran_outcome y ss₁ as₁) k h run_of (run_told y.answer) q
-        (ap (λ (r : Run). r.refusal) q ∙ run_refusal (run_answer y.answer)) p
+    pub run_called : {r : Result ℕ ℕ} {n : List ℕ} → r ≡ result_map_both (λ n. n) (λ k. k) (numbered y.answer) → n ≡ state_kept l y.answer y.state
+        → Called run_of (on t l (run ss as')) l r n
+    run_called e f = called t l m p q run_of (run ss as') h (e ∙ run_told y.answer) (f ∙ run_left l y.answer y.state)
 
     pub run_written : Written (on t l (run ss as')) ss₁ as₁
     run_written =
-        let w = is_on t l (run ss as') (ran_outcome y ss₁ as₁) k h in
+        let w = is_on t l m p q (run ss as') h in
         record { services = ap (λ (z : Outcome). z.services) w; actions = ap (λ (z : Outcome). z.actions) w }
 
-  pub query_told : (a : Result (Option ℕ) Refusal) → query_outcome a X ≡ outcome T X query → {r : Asked}
-      → r ≡ asked_of (query_answer a) → r ≡ asked_of (on t l query).answer
-  query_told a h q = q ∙ ap (λ (z : Outcome). asked_of z.answer) (is_on t l query (query_outcome a X) k h)
+  pub query_asked : (a : Result (Option ℕ) Refusal) → query_outcome a X ≡ outcome T X query → {r : Result (Option ℕ) ℕ}
+      → r ≡ numbered a → r ≡ asked_of (on t l query).answer
+  query_asked a h e = e ∙ query_told a ∙ ap (λ (z : Outcome). asked_of z.answer) (is_on t l m p q query h)

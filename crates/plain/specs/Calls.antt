@@ -1,17 +1,15 @@
 -- Trusted: the calls over a table and a state in numbers, and their answers as numbers.
-use Rattle.std.specs.Prelude.{ℕ, Bool, ◌&&◌, false, List, ◌≡◌}
+use Rattle.std.specs.Prelude.{ℕ, Bool, ◌&&◌, List, Option, None, Some, Result, Ok, Err, ◌≡◌}
 use Rattle.base.specs.Folds.{pick}
 use Rattle.service.specs.Numbers.{action_number, action_service, is_quiet}
+use Rattle.service.specs.declared.Action.{Action}
 use Rattle.rules.specs.Calls.{Answer, Call, Outcome, acted, check, clock, done, end, outcome, ran, refused, start, stop, stop_all, told}
 use Rattle.rules.specs.Demand.{is_refused}
 use Rattle.plain_encoding.specs.Meaning.{is_state, is_table}
 use Rattle.plain_encoding.specs.Numbers.{state_numbers, state_of, table_of}
-use Rattle.plain_encoding.specs.Values.{timed, time_of}
 use Rattle.plain.specs.declared.forms.Event.{Event}
 use Rattle.plain.specs.declared.forms.Event.TheVariants.{Start, Stop, StopAll, End, Clock}
-use Rattle.plain.specs.declared.forms.Next.{Next}
-use Rattle.plain.specs.declared.forms.Run.{Run}
-use Rattle.plain.specs.declared.forms.Asked.{Asked}
+use Rattle.plain.specs.declared.forms.Handed.{Handed}
 
 -- the call that an event is
 abbrev pub call_of : Event → Call
@@ -29,37 +27,41 @@ meant t x = is_table t && is_state x
 abbrev pub on : List ℕ → List ℕ → Call → Outcome
 on t x c = check c (state_of x) (meant t x) 24 (outcome (table_of t) (state_of x) c)
 
--- the number of a refusal, and 0 for every other answer
-abbrev pub refusal_of : Answer → ℕ
-refusal_of (refused k) = k
-refusal_of done = 0
-refusal_of (acted a) = 0
-refusal_of (ran n) = 0
-refusal_of (told d) = 0
+-- an answer as what an event gives back: nothing, or the number of the refusal; what other calls answer says nothing there
+abbrev pub event_of : Answer → Result (Unit {0}) ℕ
+event_of (refused k) = Err k
+event_of done = Ok tt
+event_of (acted a) = Ok tt
+event_of (ran n) = Ok tt
+event_of (told d) = Ok tt
 
--- an answer as the numbers of a next action; what other calls answer says nothing there
-abbrev pub next_of : Answer → Next
-next_of (refused k) = record { refusal = k; quiet = false; service = 0; action = 0 }
-next_of done = record { refusal = 0; quiet = false; service = 0; action = 0 }
-next_of (acted a) = record { refusal = 0; quiet = is_quiet a; service = action_service a; action = action_number a }
-next_of (ran n) = record { refusal = 0; quiet = false; service = 0; action = 0 }
-next_of (told d) = record { refusal = 0; quiet = false; service = 0; action = 0 }
+-- an action in numbers, none for quiet
+abbrev pub handed_of : Action → Option Handed
+handed_of a = pick (is_quiet a) None (Some (record { service = action_service a; action = action_number a }))
+
+-- the same for a next action
+abbrev pub next_of : Answer → Result (Option Handed) ℕ
+next_of (refused k) = Err k
+next_of done = Ok (Some (record { service = 0; action = 0 }))
+next_of (acted a) = Ok (handed_of a)
+next_of (ran n) = Ok (Some (record { service = 0; action = 0 }))
+next_of (told d) = Ok (Some (record { service = 0; action = 0 }))
 
 -- the same for a run
-abbrev pub run_of : Answer → Run
-run_of (refused k) = record { refusal = k; count = 0 }
-run_of done = record { refusal = 0; count = 0 }
-run_of (acted a) = record { refusal = 0; count = 0 }
-run_of (ran n) = record { refusal = 0; count = n }
-run_of (told d) = record { refusal = 0; count = 0 }
+abbrev pub run_of : Answer → Result ℕ ℕ
+run_of (refused k) = Err k
+run_of done = Ok 0
+run_of (acted a) = Ok 0
+run_of (ran n) = Ok n
+run_of (told d) = Ok 0
 
 -- the same for a query
-abbrev pub asked_of : Answer → Asked
-asked_of (refused k) = record { refusal = k; timed = false; time = 0 }
-asked_of done = record { refusal = 0; timed = false; time = 0 }
-asked_of (acted a) = record { refusal = 0; timed = false; time = 0 }
-asked_of (ran n) = record { refusal = 0; timed = false; time = 0 }
-asked_of (told d) = record { refusal = 0; timed = timed d; time = time_of d }
+abbrev pub asked_of : Answer → Result (Option ℕ) ℕ
+asked_of (refused k) = Err k
+asked_of done = Ok None
+asked_of (acted a) = Ok None
+asked_of (ran n) = Ok None
+asked_of (told d) = Ok d
 
 -- the state's numbers after a call: a refused one leaves them as they were
 abbrev pub numbers_after : List ℕ → Outcome → List ℕ

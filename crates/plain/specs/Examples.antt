@@ -1,6 +1,6 @@
 -- Of the code: numbers in and out, computed: the pair of paper 01 and the fresh state as numbers, a start, a refusal, the next action, quiet and a
 -- query; and numbers that stand for nothing.
-use Rattle.std.specs.Prelude.{ℕ, ◌+◌, ◌-◌, ◌*◌, true, false, List, [], ◌∷◌, ◌++◌, ◌≡◌, refl, replicate, set}
+use Rattle.std.specs.Prelude.{ℕ, ◌+◌, ◌-◌, ◌*◌, List, [], ◌∷◌, ◌++◌, ◌≡◌, None, Some, Ok, Err, refl, replicate, set}
 use Rattle.base.specs.Folds.{every, first, some}
 use Rattle.base.specs.Links.{cyclic, reach}
 use Rattle.base.specs.Sets.{has_bit, within}
@@ -16,8 +16,7 @@ use Rattle.rules.specs.WellFormed.{formed, shaped_at, state_formed, table_formed
 use Rattle.service.specs.Numbers.{settings_from}
 use Rattle.plain_encoding.specs.Meaning.{is_record, is_settings, is_state, is_table, stand_as}
 use Rattle.plain_encoding.specs.Numbers.{all_numbers, per_place, place_of, record_from, state_numbers, state_of, table_of}
-use Rattle.load_lent.specs.declared.Answer.TheVariants.{Accepted, Refused}
-use Rattle.plain.specs.Calls.{asked_of, call_of, next_of, numbers_after, on, refusal_of}
+use Rattle.plain.specs.Calls.{asked_of, call_of, event_of, next_of, numbers_after, on}
 use Rattle.plain.specs.Loads.{counted, load_of}
 use Rattle.plain.specs.declared.forms.Event.TheVariants.{Start, Clock}
 
@@ -37,24 +36,24 @@ abbrev wanted : List ℕ
 wanted = set fresh (place_of 1 + 1) 1
 
 -- there is no service 2: the number of the refusal, and the numbers as they were
-pub start_refused : (refusal_of (on pair_numbers fresh (call_of (Start 2))).answer ≡ 20)
+pub start_refused : (event_of (on pair_numbers fresh (call_of (Start 2))).answer ≡ Err 20)
     × (numbers_after fresh (on pair_numbers fresh (call_of (Start 2))) ≡ fresh)
 unfolding some every first has_bit within reach cyclic settings_at record_at with_record hard_links strong_links all_links hard strong soft depends blocked needed table_formed shaped_at state_formed formed each start_reaches after_start after_clock due fits lost_to_user leaves hands chosen_from chosen act act_on next_action earliest check outcome state_numbers state_of record_from table_of settings_from stand_as is_record is_settings is_state is_table
 start_refused = (refl, refl)
 
 -- "Start 1: moved 1", which is then waiting; its phase is its first number, and the clock the first of all
-pub start_done : (refusal_of (on pair_numbers fresh (call_of (Start 1))).answer ≡ 0)
+pub start_done : (event_of (on pair_numbers fresh (call_of (Start 1))).answer ≡ Ok tt)
     × (numbers_after fresh (on pair_numbers fresh (call_of (Start 1))) ≡ wanted)
-    × (next_of (on pair_numbers wanted next).answer ≡ record { refusal = 0; quiet = false; service = 1; action = 0 })
+    × (next_of (on pair_numbers wanted next).answer ≡ Ok (Some (record { service = 1; action = 0 })))
     × (numbers_after wanted (on pair_numbers wanted next) ≡ set wanted (place_of 1) 1)
     × (numbers_after wanted (on pair_numbers wanted (call_of (Clock 50000))) ≡ set wanted 0 50000)
 unfolding some every first has_bit within reach cyclic settings_at record_at with_record hard_links strong_links all_links hard strong soft depends blocked needed table_formed shaped_at state_formed formed each start_reaches after_start after_clock due fits lost_to_user leaves hands chosen_from chosen act act_on next_action earliest check outcome state_numbers state_of record_from table_of settings_from stand_as is_record is_settings is_state is_table
 start_done = (refl, refl, refl, refl, refl)
 
 -- nothing is wanted: quiet, with no earliest time; and a table of more than the most services is refused
-pub quiet_told : (next_of (on pair_numbers fresh next).answer ≡ record { refusal = 0; quiet = true; service = 0; action = 0 })
-    × (asked_of (on pair_numbers fresh query).answer ≡ record { refusal = 0; timed = false; time = 0 })
-    × (asked_of (on (set pair_numbers 0 (max_services + 1)) fresh query).answer ≡ record { refusal = 24; timed = false; time = 0 })
+pub quiet_told : (next_of (on pair_numbers fresh next).answer ≡ Ok None)
+    × (asked_of (on pair_numbers fresh query).answer ≡ Ok None)
+    × (asked_of (on (set pair_numbers 0 (max_services + 1)) fresh query).answer ≡ Err 24)
 unfolding some every first has_bit within reach cyclic settings_at record_at with_record hard_links strong_links all_links hard strong soft depends blocked needed table_formed shaped_at state_formed formed each start_reaches after_start after_clock due fits lost_to_user leaves hands chosen_from chosen act act_on next_action earliest check outcome state_numbers state_of record_from table_of settings_from stand_as is_record is_settings is_state is_table
 quiet_told = (refl, refl, refl)
 
@@ -63,18 +62,18 @@ quiet_told = (refl, refl, refl)
 abbrev nowhere : List ℕ
 nowhere = set fresh (place_of 1) 77
 
-pub nothing_told : (refusal_of (on pair_numbers nowhere (call_of (Start 1))).answer ≡ 24)
+pub nothing_told : (event_of (on pair_numbers nowhere (call_of (Start 1))).answer ≡ Err 24)
     × (numbers_after nowhere (on pair_numbers nowhere (call_of (Start 1))) ≡ nowhere)
-    × (refusal_of (on pair_numbers nowhere (call_of (Start 2))).answer ≡ 24)
-    × (next_of (on pair_numbers (set fresh (place_of 0 + 1) 2) next).answer ≡ record { refusal = 24; quiet = false; service = 0; action = 0 })
-    × (asked_of (on pair_numbers (set fresh (place_of 0 + (per_place - 1)) 1) query).answer ≡ record { refusal = 24; timed = false; time = 0 })
-    × (asked_of (on (set pair_numbers (place_of (max_services - 1)) 3) fresh query).answer ≡ record { refusal = 24; timed = false; time = 0 })
+    × (event_of (on pair_numbers nowhere (call_of (Start 2))).answer ≡ Err 24)
+    × (next_of (on pair_numbers (set fresh (place_of 0 + 1) 2) next).answer ≡ Err 24)
+    × (asked_of (on pair_numbers (set fresh (place_of 0 + (per_place - 1)) 1) query).answer ≡ Err 24)
+    × (asked_of (on (set pair_numbers (place_of (max_services - 1)) 3) fresh query).answer ≡ Err 24)
     × ((on pair_numbers nowhere (run (7 ∷ []) (9 ∷ []))).services ≡ (7 ∷ []))
 unfolding every check stand_as record_from settings_from is_record is_settings is_state is_table
 nothing_told = (refl, refl, refl, refl, refl, refl, refl)
 
 -- a load's answers, and the counts of service 1: three tokens for its command, two for its stop-command
-pub load_told : (load_of Accepted 2 ≡ record { number = 0; service = 0; line = 0; column = 0; count = 2 })
-    × (load_of (Refused 15 1 3 1) 0 ≡ record { number = 15; service = 1; line = 3; column = 1; count = 0 })
+pub load_told : (load_of (Ok (record { table = record { count = 2; services = [] }; commands = [] })) ≡ Ok 2)
+    × (load_of (Err (record { number = 15; service = 1; line = 3; column = 1 })) ≡ Err (record { number = 15; service = 1; line = 3; column = 1 }))
     × (counted (replicate 4 0) 1 (record { start = record { at = 0; count = 3 }; stop = record { at = 20; count = 2 } }) ≡ (0 ∷ 0 ∷ 3 ∷ 2 ∷ []))
 load_told = (refl, refl, refl)

@@ -4,17 +4,15 @@
 
 mod forms;
 
-ghost use Rattle.std.specs.Prelude.{◌≡◌, ◌<◌, eqb};
-ghost use Rattle.base.specs.Folds.{pick};
-ghost use Rattle.service.specs.Limits.{max_services};
-ghost use Rattle.rules.specs.Calls.{next, query as asking, run, told, outcome, event_answer, action_answer, run_answer, query_answer, changed_outcome};
-ghost use Rattle.plain_encoding.specs.Numbers.{state_numbers};
+ghost use Rattle.std.specs.Prelude.{◌≡◌};
 ghost use Rattle.loader.specs.Load.{load as loading};
-ghost use Rattle.plain.specs.Calls.{call_of, meant, on, refusal_of, next_of, run_of, asked_of, Called, Written};
-ghost use Rattle.plain.specs.Loads.{load_of, counted, counts_of, Kept};
+ghost use Rattle.rules.specs.Calls.{next, query as asking, run, outcome, changed_outcome};
+ghost use Rattle.plain.specs.Calls.{call_of, meant, on, event_of, next_of, run_of, asked_of, handed_of, Called, Written};
+ghost use Rattle.plain.specs.Told.{checked, numbered, state_kept};
+ghost use Rattle.plain.specs.Loads.{counts_of, Kept};
 
-pub use forms::{Asked, Event, Load, Next, Run};
-use load_lent::Answer;
+pub use forms::{Event, Handed};
+use load_lent::Refused;
 use loader::{Commands, Loaded};
 use plain_encoding::{
     Numbers, is_state, is_table, read_state, read_table, write_state, write_table,
@@ -23,20 +21,25 @@ use service::{Action, Answered, MAX_SERVICES, Refusal, State, Table};
 
 // ---- the calls
 
-// The numbers stand for a table and a state.
-fn are_meant(table: &Numbers, state: &Numbers) -> bool
-    ensures { result ≡ meant table.now state.now }
+// 24 where the numbers stand for no table, or for no state.
+fn check(table: &Numbers, state: &Numbers) -> Result<(), u64>
+    ensures { result ≡ checked (meant table.now state.now) }
 {
-    is_table(table) & is_state(state)
+    if is_table(table) && is_state(state) {
+        Ok(())
+    } else {
+        Err(u64::from(Refusal::IllFormed))
+    }
 }
 
-// Writes the state of a call that was not refused.
-fn keep(numbers: &mut Numbers, refusal: u64, x: State)
-    ensures { numbers.new ≡ pick (eqb refusal 0) (state_numbers numbers.old x) numbers.old }
+// The answer of a call, whose state is written where it was not refused.
+fn keep<A: Copy>(state: &mut Numbers, called: Answered<A>) -> Result<A, u64>
+    ensures answer { result ≡ numbered called.answer }
+    ensures left { state.new ≡ state_kept state.old called.answer called.state }
 {
-    if refusal == 0 {
-        write_state(numbers, x);
-    }
+    let answer = called.answer?;
+    write_state(state, called.state);
+    Ok(answer)
 }
 
 // What an event does to the state.
@@ -52,138 +55,55 @@ fn change(t: Table, x: State, e: Event) -> Answered<()>
     }
 }
 
-fn event_refusal(answer: Result<(), Refusal>) -> u64
-    ensures { result ≡ refusal_of (event_answer answer) }
+// An event: done, or the number of its refusal.
+pub fn event(table: &Numbers, state: &mut Numbers, e: Event) -> Result<(), u64>
+    ensures { Called event_of (on table.now state.old (call_of e)) state.old result state.new }
 {
-    match answer {
-        Ok(()) => 0,
-        Err(refusal) => u64::from(refusal),
-    }
-}
-
-// An event: 0 where it was done, else the number of its refusal.
-pub fn event(table: &Numbers, state: &mut Numbers, e: Event) -> u64
-    ensures { Called refusal_of (on table.now state.old (call_of e)) state.old result state.new }
-{
-    if !are_meant(table, state) {
-        return event_refusal(Err(Refusal::IllFormed));
-    }
+    check(table, state)?;
     let changed = change(read_table(table), read_state(state), e);
-    let answer = changed.answer;
-    let refusal = event_refusal(answer);
-    keep(state, refusal, changed.state);
-    refusal
+    keep(state, changed)
 }
 
-fn next_of(answer: Result<Action, Refusal>) -> Next
-    ensures { result ≡ next_of (action_answer answer) }
+// An action in numbers, none where all is quiet.
+fn handed(a: Action) -> Option<Handed>
+    ensures { result ≡ handed_of a }
 {
-    match answer {
-        Ok(action) => {
-            let quiet = action == Action::Quiet;
-            Next {
-                refusal: 0,
-                quiet,
-                service: action.service(),
-                action: action.number(),
-            }
-        }
-        Err(refusal) => Next {
-            refusal: u64::from(refusal),
-            quiet: false,
-            service: 0,
-            action: 0,
-        },
-    }
+    (a != Action::Quiet).then_some(Handed {
+        service: a.service(),
+        action: a.number(),
+    })
 }
 
-// The next action, whose change of the state is kept.
-pub fn next_action(table: &Numbers, state: &mut Numbers) -> Next
+// The next action, none where all is quiet; its change of the state is kept.
+pub fn next_action(table: &Numbers, state: &mut Numbers) -> Result<Option<Handed>, u64>
     ensures { Called next_of (on table.now state.old next) state.old result state.new }
 {
-    if !are_meant(table, state) {
-        return next_of(Err(Refusal::IllFormed));
-    }
+    check(table, state)?;
     let stepped = engine::next_action(read_table(table), read_state(state));
-    let answer = stepped.answer;
-    let told = next_of(answer);
-    keep(state, told.refusal, stepped.state);
-    told
+    keep(state, stepped).map(handed)
 }
 
-fn run_of(answer: Result<usize, Refusal>) -> Run
-    ensures { result ≡ run_of (run_answer answer) }
-{
-    match answer {
-        Ok(count) => Run {
-            refusal: 0,
-            count: count as u64,
-        },
-        Err(refusal) => Run {
-            refusal: u64::from(refusal),
-            count: 0,
-        },
-    }
-}
-
-// A run to quiet, with the services and the actions in the two lent slices.
+// A run to quiet, with the services and the actions in the two lent slices: how many actions there were.
 pub fn run_to_quiet(
     table: &Numbers,
     state: &mut Numbers,
     services: &mut [u64],
     actions: &mut [u64],
-) -> Run
+) -> Result<u64, u64>
     ensures called { Called run_of (on table.now state.old (run services.old actions.old)) state.old result state.new }
     ensures written { Written (on table.now state.old (run services.old actions.old)) services.new actions.new }
 {
-    if !are_meant(table, state) {
-        return run_of(Err(Refusal::IllFormed));
-    }
+    check(table, state)?;
     let ran = engine::run_to_quiet(read_table(table), read_state(state), services, actions);
-    let answer = ran.answer;
-    let told = run_of(answer);
-    keep(state, told.refusal, ran.state);
-    told
+    keep(state, ran).map(|count| count as u64)
 }
 
-fn asked_time(earliest: Option<u64>) -> Asked
-    ensures { result ≡ asked_of (told earliest) }
-{
-    match earliest {
-        None => Asked {
-            refusal: 0,
-            timed: false,
-            time: 0,
-        },
-        Some(time) => Asked {
-            refusal: 0,
-            timed: true,
-            time,
-        },
-    }
-}
-
-fn asked_of(answer: Result<Option<u64>, Refusal>) -> Asked
-    ensures { result ≡ asked_of (query_answer answer) }
-{
-    match answer {
-        Ok(earliest) => asked_time(earliest),
-        Err(refusal) => Asked {
-            refusal: u64::from(refusal),
-            timed: false,
-            time: 0,
-        },
-    }
-}
-
-// The earliest time at which a service may have something to do.
-pub fn query(table: &Numbers, state: &Numbers) -> Asked
+// The earliest time at which a service may have something to do, if any.
+pub fn query(table: &Numbers, state: &Numbers) -> Result<Option<u64>, u64>
     ensures { result ≡ asked_of (on table.now state.now asking).answer }
 {
-    if !are_meant(table, state) {
-        return asked_of(Err(Refusal::IllFormed));
-    }
-    asked_of(engine::query(read_table(table), read_state(state)))
+    check(table, state)?;
+    engine::query(read_table(table), read_state(state)).map_err(u64::from)
 }
 
 // ---- the load
@@ -193,72 +113,30 @@ pub const COUNTS: usize = 2 * MAX_SERVICES;
 
 pub type Counts = [u64; COUNTS];
 
-fn load_of(answer: Answer, count: usize) -> Load
-    ensures { result ≡ load_of answer count }
-{
-    match answer {
-        Answer::Accepted => Load {
-            number: 0,
-            service: 0,
-            line: 0,
-            column: 0,
-            count: count as u64,
-        },
-        Answer::Refused {
-            number,
-            service,
-            line,
-            column,
-        } => Load {
-            number: number as u64,
-            service: service as u64,
-            line: line as u64,
-            column: column as u64,
-            count: 0,
-        },
-    }
-}
-
-// Puts how many tokens the two commands of a service have.
-fn put_counts(counts: &mut Counts, s: usize, commands: Commands)
-    requires { s < max_services }
-    ensures { counts.new ≡ counted counts.old s commands }
-{
-    let start = commands.start;
-    let stop = commands.stop;
-    counts[2 * s] = start.count as u64;
-    counts[2 * s + 1] = stop.count as u64;
-}
-
+// Puts how many tokens the two commands of each service have.
 fn write_counts(counts: &mut Counts, commands: [Commands; MAX_SERVICES])
     ensures { counts.new ≡ counts_of counts.old commands }
 {
-    let mut s: usize = 0;
-    while s < MAX_SERVICES {
-        put_counts(counts, s, commands[s]);
-        s += 1;
+    for s in 0..MAX_SERVICES {
+        counts[2 * s] = commands[s].start.count as u64;
+        counts[2 * s + 1] = commands[s].stop.count as u64;
     }
 }
 
-// Writes what an accepted load gave, and the fresh state; a refused one leaves all as it was.
+// Writes what an accepted load gave, and the fresh state, and tells how many services there are; a refused one leaves all as it was.
 fn keep_loaded(
-    loaded: Loaded,
+    loaded: Result<Loaded, Refused>,
     table: &mut Numbers,
     state: &mut Numbers,
     counts: &mut Counts,
-) -> Load
+) -> Result<u64, Refused>
     ensures { Kept loaded table.old state.old counts.old result table.new state.new counts.new }
 {
-    let answer = loaded.answer;
-    let Answer::Accepted = answer else {
-        return load_of(answer, 0);
-    };
-    let t = loaded.table;
-    let commands = loaded.commands;
-    write_table(table, t);
+    let loaded = loaded?;
+    write_table(table, loaded.table);
     write_state(state, State::fresh());
-    write_counts(counts, commands);
-    load_of(answer, t.count)
+    write_counts(counts, loaded.commands);
+    Ok(loaded.table.count as u64)
 }
 
 // Loads a set, as the loader does: a refusal leaves all that is lent as it was.
@@ -269,7 +147,7 @@ pub fn load(
     table: &mut Numbers,
     state: &mut Numbers,
     counts: &mut Counts,
-) -> Load
+) -> Result<u64, Refused>
     ensures kept { Kept (loading lent.now ends.now tokens.old).loaded table.old state.old counts.old result table.new state.new counts.new }
     ensures tokens_after { tokens.new ≡ (loading lent.now ends.now tokens.old).buffer }
 {

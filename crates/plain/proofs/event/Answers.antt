@@ -1,22 +1,13 @@
 -- `event` meets its contract: numbers that stand for nothing, or the state is kept where the change was not refused.
-use Rattle.plain.specs.Calls.{refusal_of}
-use Rattle.plain.proofs.Laws.{event_kept, nothing_called}
+use Rattle.std.proofs.Common.{rules}
+use Rattle.plain.specs.Calls.{event_of}
+use Rattle.plain.proofs.Laws.{event_called, found_bad, found_good, nothing_called}
 use Rattle.plain.proofs.event.Goals as goal
 
-pub returns-then-not-are_meant : goal.returns-then-not-are_meant
-returns-then-not-are_meant c = nothing_called _ _ _ c.are_meant.ensures c.if-not-are_meant.true-raw refusal_of c.event_refusal.ensures
+pub returns-in_err-check : goal.returns-in_err-check
+returns-in_err-check c = nothing_called _ _ _ (found_bad _ c.in_err-check.ensures) event_of (search rules)
 
 pub returns : goal.returns
 returns c =
-    event_kept _ _
-    (record {
-      found = c.are_meant.ensures;
-      holds = c.if-not-are_meant.false-raw;
-      table = c.read_table.ensures;
-      state = c.read_state.ensures;
-    })
-    _
-    c.change-changed.result
-    c.change-changed.ensures
-    c.event_refusal-refusal.ensures
-    c.keep.ensures
+    event_called _ _ (found_good _ c.in_ok-check.ensures) c.read_table.ensures c.read_state.ensures _ c.change-changed.result
+    c.change-changed.ensures c.keep.ensures.answer c.keep.ensures.left

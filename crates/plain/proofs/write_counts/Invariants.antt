@@ -1,4 +1,3 @@
-use Prim.Native.Nat.{◌-◌}
 use lib.ListN.{get_or}
 use Rattle.base.proofs.Loops.{Folded}
 use Rattle.service.specs.Limits.{max_services}
@@ -9,6 +8,3 @@ use Rattle.plain.proofs.write_counts.Given as goal
 abbrev pub invariant-loop-s : goal.invariant-loop-s
 invariant-loop-s l =
     Folded (λ m i. counted m i (get_or l.commands i (record { start = no_tokens; stop = no_tokens }))) l.initial.counts max_services l.counts l.s
-
-abbrev pub decreases-loop-s : goal.decreases-loop-s
-decreases-loop-s l = max_services - l.s
