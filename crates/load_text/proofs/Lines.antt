@@ -1,14 +1,13 @@
 -- The laws of lines: a line goes on or ends, and a text that is not empty is its first line and the lines after.
 use mathlib.Core.Path.{◌≡◌, refl, sym, ap, ◌∙◌}
 use mathlib.Core.List.{List, [], ◌∷◌}
-use mathlib.Core.Bool.{Bool, true, false, ◌||◌}
+use mathlib.Core.Bool.{Bool, true, false}
 use Prim.Native.Nat.{ℕ, zero, suc, ◌+◌, ◌-◌, ◌*◌, ◌≤◌, ◌<◌, zero-le, suc-le-suc}
 use native.Mathlib.Nat.{not-suc-le-zero, add-zero}
 use native.Mathlib.Omega.{arith}
 use lib.Dec.{eqb, leb}
 use lib.ListN.{length, get_or, take, drop, drop_of_length-le, length-drop, get_or-eq_default}
 use lib.Seq.{drop-drop, get_or-drop}
-use Rattle.base.proofs.Counting.{drop_more}
 use borrow.Author.Tests.{eqb-true, le-leb, leb-true, leb-false}
 use Rattle.base.proofs.Tests.{not_both}
 use Rattle.base.specs.Folds.{pick}
@@ -25,10 +24,6 @@ module _ (s : List ℕ) (k : ℕ) where
   pub line_none : length s ≤ k → line_of (drop k s) ≡ []
   unfolding line_of
   line_none h = rw (drop_of_length-le s h)
-
-  pub line_more : {t : Bool} → k < length s → is_newline (get_or s k 0) ≡ t → line_of (drop k s) ≡ pick t [] (get_or s k 0 ∷ line_of (drop (k + 1) s))
-  unfolding line_of
-  line_more h e = rw (drop_more s k 0 h, e)
 
 pub line_take : (l : List ℕ) → take (length (line_of l)) l ≡ line_of l
 unfolding line_of
@@ -99,29 +94,10 @@ line_part_any s i {e} q = by (leb (length s) i) refl
         let d : i - i ≡ 0 = omega arith in
         rw (n, z, d, le-leb i i (omega arith)) (nothing (leb i (length s)))
 
--- how a line begins, by the places and bytes that were found; the premises stand as the callees' contracts give them
+-- the places of a line's name and sign; the premise stands as the callee's contract gives it
 module _ (l : List ℕ) {a : ℕ} (p : a ≡ white_end l 0) where
   name_inside : a ≤ length l
   name_inside = run_within is_white l 0 zero-le p
-
-  module _ {f : ℕ} (u : f ≡ get_or l a 0) where
-    pub opening_nothing : leb (length l) a || eqb f 35 ≡ true → Ok None ≡ opening l
-    unfolding opening
-    opening_nothing x = rw (← p, ← u, x)
-
-    module _ {e : ℕ} (q : e ≡ name_end l a) (x : leb (length l) a || eqb f 35 ≡ false) where
-      pub opening_nameless : eqb a e ≡ true → Err (fault Malformed a) ≡ opening l
-      unfolding opening
-      opening_nameless y = rw (← p, ← u, x, ← q, y)
-
-      module _ {s b : ℕ} {g : Bool} (r : s ≡ white_end l e) (v : b ≡ get_or l s 0) (w : g ≡ is_sign b) (y : eqb a e ≡ false) where
-        pub opening_named : g ≡ true → Ok (Some (record { from = a; end = e; value = s + 1 })) ≡ opening l
-        unfolding opening
-        opening_named z = rw (← p, ← u, x, ← q, y, ← r, ← v, ← w, z)
-
-        pub opening_unsigned : g ≡ false → Err (fault Malformed s) ≡ opening l
-        unfolding opening
-        opening_unsigned z = rw (← p, ← u, x, ← q, y, ← r, ← v, ← w, z)
 
   -- the sign is at a place that a usize holds, and so is the value
   pub sign_fits : {e s : ℕ} → e ≡ name_end l a → s ≡ white_end l e → length l * 1 < 9223372036854775808 → s < 9223372036854775808

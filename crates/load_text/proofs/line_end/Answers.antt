@@ -1,18 +1,20 @@
--- `line_end` meets its contract: what is left of the line after e bytes.
-use native.Mathlib.Omega.{arith}
-use mathlib.Core.Path.{refl, ap}
-use lib.ListN.{length}
-use Rattle.load_text.proofs.Lines.{line_none, line_more}
+-- `line_end` meets its contract: what the chain counts is the line.
+use mathlib.Core.Path.{◌≡◌, ap, ◌∙◌}
+use Prim.Native.Nat.{ℕ, ◌+◌}
+use Rattle.std.specs.List.{prefix_len}
+use Rattle.std.proofs.Common.{rules, tests}
+use Rattle.std.proofs.lemmas.Iterator.{YieldsList-from_slice}
+use Rattle.std.proofs.lemmas.Iterator.Consumers.{count_from_yields_List}
+use Rattle.std.proofs.lemmas.Iterator.Search.{YieldsList-from_take_while}
+use Rattle.std.proofs.lemmas.List.Folds.{length-prefix_len}
+use Rattle.load_text.proofs.Chains.{in_line, line_prefix}
 use Rattle.load_text.proofs.line_end.Goals as goal
 
-pub loop-e-init : goal.loop-e-init
-loop-e-init c = refl
-
-pub returns-then-ends : goal.returns-then-ends
-returns-then-ends c = omega (arith, c.loop-e.invariant, ap length (line_more c.args.s.now c.loop-e.e c.loop-e-test.true c.if-ends.true-raw))
-
-pub loop-e-preserved : goal.loop-e-preserved
-loop-e-preserved c = omega (arith, c.loop-e.invariant, ap length (line_more c.args.s.now c.loop-e.e c.loop-e-test.true c.if-ends.false-raw))
-
 pub returns : goal.returns
-returns c = omega (arith, c.loop-e.invariant, ap length (line_none c.args.s.now c.loop-e.e c.loop-e-test.false))
+returns c =
+    let t = c.tail.result.now in
+    let counted : c.count.result ≡ prefix_len in_line t =
+    count_from_yields_List c.take_while.result _ c.count.ensures.ran
+    (YieldsList-from_take_while _ in_line (YieldsList-from_slice t (cc)) c.take_while.ensures.closure c.take_while.ensures.done (λ x b q k. search (rules, tests)))
+    ∙ length-prefix_len in_line t in
+    ap (λ (n : ℕ). c.args.i + n) (counted ∙ rw c.tail.ensures (line_prefix _))

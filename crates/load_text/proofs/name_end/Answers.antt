@@ -1,20 +1,21 @@
--- `name_end` meets its contract: what is left of the name after e bytes.
-use native.Mathlib.Omega.{arith}
-use mathlib.Core.Path.{refl, sym, ◌∙◌}
+-- `name_end` meets its contract: what the chain counts is the run.
+use mathlib.Core.Path.{◌≡◌, ap, ◌∙◌}
+use Prim.Native.Nat.{ℕ, ◌+◌}
+use Rattle.std.specs.List.{prefix_len}
+use Rattle.std.proofs.Common.{rules, tests}
+use Rattle.std.proofs.lemmas.Iterator.{YieldsList-from_slice}
+use Rattle.std.proofs.lemmas.Iterator.Consumers.{count_from_yields_List}
+use Rattle.std.proofs.lemmas.Iterator.Search.{YieldsList-from_take_while}
+use Rattle.std.proofs.lemmas.List.Folds.{length-prefix_len}
 use Rattle.load_text.specs.Bytes.{is_property_byte}
-use Rattle.load_text.proofs.Runs.{run_end, run_next}
+use Rattle.load_text.proofs.Chains.{run_prefix}
 use Rattle.load_text.proofs.name_end.Goals as goal
 
-pub loop-e-init : goal.loop-e-init
-loop-e-init c = refl
-
-pub loop-e-preserved : goal.loop-e-preserved
-loop-e-preserved c =
-    omega (arith, c.loop-e.invariant, run_next is_property_byte c.args.s.now c.loop-e.e c.loop-e-test.true (sym c.is_property_byte-inside.ensures ∙ c.if-inside.true))
-
-pub returns-else-inside : goal.returns-else-inside
-returns-else-inside c =
-    omega (arith, c.loop-e.invariant, run_next is_property_byte c.args.s.now c.loop-e.e c.loop-e-test.true (sym c.is_property_byte-inside.ensures ∙ c.if-inside.false))
-
 pub returns : goal.returns
-returns c = omega (arith, c.loop-e.invariant, run_end is_property_byte c.args.s.now c.loop-e.e c.loop-e-test.false)
+returns c =
+    let t = c.tail.result.now in
+    let counted : c.count.result ≡ prefix_len is_property_byte t =
+    count_from_yields_List c.take_while.result _ c.count.ensures.ran
+    (YieldsList-from_take_while _ is_property_byte (YieldsList-from_slice t (cc)) c.take_while.ensures.closure c.take_while.ensures.done (λ x b q k. search (rules, tests)))
+    ∙ length-prefix_len is_property_byte t in
+    ap (λ (n : ℕ). c.args.i + n) (counted ∙ rw c.tail.ensures (run_prefix is_property_byte _))
