@@ -116,7 +116,7 @@ CALLED = {'input': 'stdin', 'output': 'stdout', 'files': 'data'}
 ON_README = ['refusal_leaves_all', 'refused_load_leaves_all', 'load', 'outcome', 'Guarantee', 'guarantee']
 
 # Quoted words of a page that are nobody's declaration: programs, libraries and words of the toolchain's verdict, signs of Rattle's own.
-FOREIGN = {'Result', 'Option', 'rt', 'cargo', 'python3', 'valgrind', 'std', 'check', 'requires', 'ensures', 'specs', 'proofs', 'memcpy'}
+FOREIGN = {'Result', 'Ok', 'Err', 'Option', 'rt', 'cargo', 'python3', 'valgrind', 'std', 'check', 'requires', 'ensures', 'specs', 'proofs', 'memcpy'}
 
 # The crates that a host names; they hand on what they are made of.
 HANDED_ON_BY = ('engine', 'loader')

@@ -254,7 +254,7 @@ DAMAGES = [
      {'crates/plain_encoding/specs/Numbers.antt': swap('flag_number r.aside\n    ∷ flag_number r.live', 'flag_number r.live\n    ∷ flag_number r.aside')}),
     ('a phase gets another number', 'phase_number', {'crates/service/specs/Numbers.antt': swap('phase_number Up = 3', 'phase_number Up = 5')}),
     ('a place has more numbers', '17 for each', {'crates/plain_encoding/specs/Numbers.antt': swap('per_place = 16', 'per_place = 17')}),
-    ('a part of an answer in numbers is renamed', 'Asked has', {'crates/plain/src/forms.rt': swap('pub timed: bool', 'pub dated: bool')}),
+    ('a part of an answer in numbers is renamed', 'Handed has', {'crates/plain/src/forms.rt': swap('pub action: u64', 'pub deed: u64')}),
     ('a signal of a run has another number', 'signals of a run', {HOST: swap('5 INT, 6 TERM', '5 INT, 5 TERM')}),
     ('a default of the pair changes', 'the pair has no line', {'crates/service/specs/Limits.antt': swap('default_delay = 2000', 'default_delay = 2500')}),
     ('a list of the layout is renamed', 'cannot be held', {'crates/service/specs/Numbers.antt': rename('cause_number', 'reasonNumber')}),
