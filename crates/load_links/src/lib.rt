@@ -1,7 +1,7 @@
 // The dependencies of a set resolved to sets of services, the settings of each service, and the search for a cycle. Numbers 15 and 16.
 #![tactic(auto)]
 
-ghost use Rattle.std.specs.Prelude.{◌≡◌, ◌≤◌, ◌<◌, ◌/◌, leb, length};
+ghost use Rattle.std.specs.Prelude.{MatchResult, ◌≡◌, ◌≤◌, ◌<◌, ◌/◌, leb, length};
 ghost use Rattle.base.specs.Folds.{pick, first};
 ghost use Rattle.base.specs.Sets.{has_bit};
 ghost use Rattle.base.specs.Links.{reach};
@@ -9,6 +9,7 @@ ghost use Rattle.links.specs.Rows.{rows_as};
 ghost use Rattle.service.specs.Limits.{max_services};
 ghost use Rattle.load_description.specs.Settings.{word_at};
 ghost use Rattle.load_lent.specs.Parts.{service_count, name_at, text_at};
+ghost use Rattle.load_lent.specs.Refusals.{bare};
 ghost use Rattle.load_lent.specs.Checks.{find, found};
 ghost use Rattle.load_links.specs.Links.{with_link, links_in, settings_of, services_from, services_in, lowest_cyclic};
 
@@ -52,6 +53,25 @@ impl Links {
     }
 }
 
+// A lent set of no more services than there are places.
+#[derive(Clone, Copy)]
+pub struct Set<'a, 'e> {
+    pub lent: Lent<'a, 'e>,
+    ghost few: { service_count lent.ends.now ≤ max_services },
+}
+
+impl<'a, 'e> Set<'a, 'e> {
+    // More services than there are places are refused (1).
+    pub fn new(lent: Lent<'a, 'e>) -> Result<Set<'a, 'e>, Refused>
+        ensures { MatchResult result (λ s. s.lent ≡ lent.entry) (λ r. (r ≡ bare 1 0) × (max_services < service_count lent.entry.ends.now)) }
+    {
+        if MAX_SERVICES < lent.count() {
+            return Err(Refused::bare(1, 0));
+        }
+        Ok(Set { lent })
+    }
+}
+
 // The service that the word at an offset of a text names.
 fn find_word(lent: Lent, text: &[u8], at: usize) -> Option<usize>
     ensures { let n = service_count lent.entry.ends.now in result ≡ found n (find (name_at lent.entry.bytes.now lent.entry.ends.now) n (word_at text.now at)) }
@@ -62,9 +82,8 @@ fn find_word(lent: Lent, text: &[u8], at: usize) -> Option<usize>
 }
 
 // The dependencies of one description. One that says that it has more than there are places is not looked through.
-fn resolve(lent: Lent, text: &[u8], d: Description) -> Result<Links, Fault>
-    requires { length lent.ends.now / 2 ≤ max_services }
-    ensures { result ≡ links_in (name_at lent.entry.bytes.now lent.entry.ends.now) (service_count lent.entry.ends.now) text.now d }
+fn resolve(set: Set, text: &[u8], d: Description) -> Result<Links, Fault>
+    ensures { result ≡ links_in (name_at set.entry.lent.bytes.now set.entry.lent.ends.now) (service_count set.entry.lent.ends.now) text.now d }
 {
     if MAX_DEPENDENCIES < d.count {
         return Err(Fault {
@@ -74,7 +93,7 @@ fn resolve(lent: Lent, text: &[u8], d: Description) -> Result<Links, Fault>
     }
     let mut links = Links::NONE;
     for dependency in &d.dependencies[..d.count] {
-        let Some(i) = find_word(lent, text, dependency.at) else {
+        let Some(i) = find_word(set.lent, text, dependency.at) else {
             return Err(Fault {
                 wrong: Wrong::NoSuchService,
                 at: dependency.at,
@@ -86,8 +105,8 @@ fn resolve(lent: Lent, text: &[u8], d: Description) -> Result<Links, Fault>
 }
 
 // The settings of a service: those of its description, with what it depends on.
-fn settings_of(d: Description, l: Links) -> Settings
-    ensures { result ≡ settings_of d l }
+fn settings_of(d: &Description, l: Links) -> Settings
+    ensures { result ≡ settings_of d.now l }
 {
     Settings {
         hard: l.hard,
@@ -99,18 +118,16 @@ fn settings_of(d: Description, l: Links) -> Settings
 
 // The settings of each service, put into the places given.
 fn make(
-    lent: Lent,
-    ds: [Description; MAX_SERVICES],
+    set: Set,
+    ds: &[Description; MAX_SERVICES],
     mut services: [Settings; MAX_SERVICES],
 ) -> Result<[Settings; MAX_SERVICES], Refused>
-    requires { length lent.ends.now / 2 ≤ max_services }
-    ensures { result ≡ services_from (name_at lent.entry.bytes.now lent.entry.ends.now) (text_at lent.entry.bytes.now lent.entry.ends.now) ds (service_count lent.entry.ends.now) services 0 (service_count lent.entry.ends.now) }
+    ensures { result ≡ services_from (name_at set.entry.lent.bytes.now set.entry.lent.ends.now) (text_at set.entry.lent.bytes.now set.entry.lent.ends.now) ds.now (service_count set.entry.lent.ends.now) services 0 (service_count set.entry.lent.ends.now) }
 {
-    for j in 0..lent.count() {
-        let text = lent.text(j);
-        let d = ds[j];
-        let links = resolve(lent, text, d).map_err(|f| Refused::within(text, j, f))?;
-        services[j] = settings_of(d, links);
+    for j in 0..set.lent.count() {
+        let text = set.lent.text(j);
+        let links = resolve(set, text, ds[j]).map_err(|f| Refused::within(text, j, f))?;
+        services[j] = settings_of(&ds[j], links);
     }
     Ok(services)
 }
@@ -118,14 +135,12 @@ fn make(
 // The settings of a set, or the first dependency on a service not in it. More services than there are places are refused (1).
 pub fn make_services(
     lent: Lent,
-    ds: [Description; MAX_SERVICES],
+    ds: &[Description; MAX_SERVICES],
 ) -> Result<[Settings; MAX_SERVICES], Refused>
-    ensures { result ≡ services_in (name_at lent.entry.bytes.now lent.entry.ends.now) (text_at lent.entry.bytes.now lent.entry.ends.now) ds (service_count lent.entry.ends.now) }
+    ensures { result ≡ services_in (name_at lent.entry.bytes.now lent.entry.ends.now) (text_at lent.entry.bytes.now lent.entry.ends.now) ds.now (service_count lent.entry.ends.now) }
 {
-    if MAX_SERVICES < lent.count() {
-        return Err(Refused::bare(1, 0));
-    }
-    make(lent, ds, [Settings::default(); MAX_SERVICES])
+    let set = Set::new(lent)?;
+    make(set, ds, [Settings::default(); MAX_SERVICES])
 }
 
 // The lowest number below n that reaches itself by the rows.

@@ -4,5 +4,5 @@ use Rattle.load_links.proofs.make.Given as goal
 
 abbrev pub invariant-loop-j : goal.invariant-loop-j
 invariant-loop-j l =
-    Made (name_at l.lent.bytes.now l.lent.ends.now) (text_at l.lent.bytes.now l.lent.ends.now) l.ds (service_count l.lent.ends.now)
+    Made (name_at l.set.lent.bytes.now l.set.lent.ends.now) (text_at l.set.lent.bytes.now l.set.lent.ends.now) l.ds (service_count l.set.lent.ends.now)
     l.initial.services l.services l.j-counter

@@ -4,4 +4,4 @@ use Rattle.load_links.proofs.resolve.Given as goal
 
 abbrev pub invariant-loop-dependency : goal.invariant-loop-dependency
 invariant-loop-dependency l =
-    Linking (name_at l.lent.bytes.now l.lent.ends.now) (service_count l.lent.ends.now) l.text l.fn.d l.links l.dependency-index
+    Linking (name_at l.set.lent.bytes.now l.set.lent.ends.now) (service_count l.set.lent.ends.now) l.text l.fn.d l.links l.dependency-index

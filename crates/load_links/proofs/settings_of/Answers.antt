@@ -6,5 +6,5 @@ use Rattle.load_links.proofs.settings_of.Goals as goal
 pub returns : goal.returns
 unfolding settings_from
 returns c =
-    let v = c.args.d.settings in
+    let v = c.args.d.now.settings in
     simp ((kind_back v.kind).0, (signal_back v.signal).0, flag_back v.restart, flag_back v.has_stop)
