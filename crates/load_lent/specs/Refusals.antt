@@ -1,5 +1,5 @@
 -- Trusted: a refusal as the load answers it: bare, or a fault met in the text of a service, with its line and column where it has them.
-use Rattle.std.specs.Prelude.{ℕ, eqb, leb, Bool, ◌&&◌, ◌||◌, List, Result}
+use Rattle.std.specs.Prelude.{ℕ, eqb, leb, Bool, ◌&&◌, ◌||◌, List, Result, Ok, Err}
 use Rattle.base.specs.Folds.{pick}
 use Rattle.load_text.specs.Lines.{column_number, line_number}
 use Rattle.load_text.specs.Numbers.{wrong_number}
@@ -29,3 +29,8 @@ column_of_fault text f = pick (has_byte (wrong_number f.wrong)) (column_number t
 -- a fault met in the text of service j
 abbrev pub refused_in : List ℕ → ℕ → Fault → Refused
 refused_in text j f = record { number = wrong_number f.wrong; service = j; line = line_of_fault text f; column = column_of_fault text f }
+
+-- the way on in the text of service j: a fault in it refuses the set
+abbrev pub in_text : {A B : Type 0} → List ℕ → ℕ → Result A Fault → (A → Result B Refused) → Result B Refused
+in_text text j (Ok x) on = on x
+in_text text j (Err f) on = Err (refused_in text j f)

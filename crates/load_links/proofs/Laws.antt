@@ -20,11 +20,11 @@ use Rattle.load_description.specs.declared.Dependency.{Dependency}
 use Rattle.load_description.specs.declared.Description.{Description}
 use Rattle.load_lent.specs.Checks.{find, found}
 use Rattle.load_lent.specs.Parts.{name_at, service_count, within}
-use Rattle.load_lent.specs.Refusals.{bare, refused_in}
+use Rattle.load_lent.specs.Refusals.{bare, in_text, refused_in}
 use Rattle.load_lent.specs.declared.Refused.{Refused}
 use Rattle.load_lent.proofs.Laws.{within_few}
 use Rattle.load_lent.proofs.Search.{found_at, found_none}
-use Rattle.load_links.specs.Links.{links_from, links_in, no_links, services_from, services_in, services_on, settings_of, with_link}
+use Rattle.load_links.specs.Links.{links_from, links_in, no_links, services_from, services_in, settings_of, with_link}
 use Rattle.load_links.specs.declared.Links.{Links}
 
 -- the search for a word among all names; v is the word as the code has it
@@ -107,7 +107,7 @@ module _ {name text : ℕ → List ℕ} {ds : List Description} {n : ℕ} {none 
 
   -- the services from j on, by its text, its description and what comes of its dependencies
   abbrev onward : List ℕ → Description → Result Links Fault → Result (List Settings) Refused
-  onward u d q = services_on u j q (λ l. services_from name text ds n (set vs j (settings_of d l)) (j + 1) (n - (j + 1)))
+  onward u d q = in_text u j q (λ l. services_from name text ds n (set vs j (settings_of d l)) (j + 1) (n - (j + 1)))
 
   step : services_from name text ds n vs j (n - j) ≡ onward t (get_or ds j x) r
   unfolding services_from

@@ -17,7 +17,7 @@ use Rattle.load_word.specs.declared.Link.TheVariants.{DependsOn, DependsMs, Wait
 use Rattle.load_description.specs.Settings.{dependency_at, description_at, max_dependencies, word_at}
 use Rattle.load_description.specs.declared.Description.{Description}
 use Rattle.load_lent.specs.Checks.{find}
-use Rattle.load_lent.specs.Refusals.{bare, refused_in}
+use Rattle.load_lent.specs.Refusals.{bare, in_text}
 use Rattle.load_lent.specs.declared.Refused.{Refused}
 use Rattle.load_links.specs.declared.Links.{Links}
 
@@ -48,16 +48,12 @@ links_in name n text d =
 abbrev pub settings_of : Description → Links → Settings
 settings_of d l = with_number 10 l.soft (with_number 9 l.milestone (with_number 8 l.hard d.settings))
 
-abbrev pub services_on : List ℕ → ℕ → Result Links Fault → (Links → Result (List Settings) Refused) → Result (List Settings) Refused
-services_on text j (Ok l) on = on l
-services_on text j (Err f) on = Err (refused_in text j f)
-
 -- from service j on with m left, in a set of n; vs holds those before it
 unfoldable pub services_from : (ℕ → List ℕ) → (ℕ → List ℕ) → List Description → ℕ → List Settings → ℕ → ℕ → Result (List Settings) Refused
 services_from name text ds n vs j zero = Ok vs
 services_from name text ds n vs j (suc m) =
     let d = description_at ds j in
-    services_on (text j) j (links_in name n (text j) d)
+    in_text (text j) j (links_in name n (text j) d)
     (λ l. services_from name text ds n (set vs j (settings_of d l)) (j + 1) m)
 
 -- the settings of a set of n services; 1: "more than 32 services"

@@ -10,6 +10,7 @@ use mathlib.Core.List.{List, [], ◌++◌, ◌∷◌, append-nil}
 use mathlib.Core.Path.{◌∙◌, ◌≡◌, ap, refl, sym}
 use native.Mathlib.Nat.{add_assoc, add-suc, add-zero, le_step, suc-add, zero-add}
 use native.Mathlib.Omega.{arith}
+use Rattle.std.specs.Prelude.{Err, None, Ok, Option, Result, Some}
 use Rattle.base.specs.Folds.{pick}
 use Rattle.load_text.specs.Lines.{line_of}
 use Rattle.load_text.specs.declared.Fault.{Fault}
@@ -17,8 +18,6 @@ use Rattle.load_text.proofs.Lines.{line_fits}
 use Rattle.load_value.specs.Steps.{between, step_of}
 use Rattle.load_value.specs.Values.{Mark, byte_of, close, marked, marks_from, scan_of, written}
 use Rattle.load_value.specs.declared.Mode.{Mode}
-use Rattle.load_value.specs.declared.Scan.{Scan}
-use Rattle.load_value.specs.declared.Scan.TheVariants.{Bad as BadValue, Tokens as Whole}
 use Rattle.load_value.specs.declared.Sizes.{Sizes}
 use Rattle.load_value.specs.declared.Step.{Step}
 use Rattle.load_value.specs.declared.Step.TheVariants.{Close, Keep, Malformed, Quote, Skip}
@@ -38,41 +37,45 @@ use Rattle.loader.specs.declared.tokens.Tokens.{Tokens}
 abbrev none : Measured
 none = record { count = 0; room = 0 }
 
-module _ (text : List ℕ) (at : ℕ) where
-  abbrev measured : Measured
-  measured = record { count = command_count text at; room = length (command_bytes text at) }
+abbrev measured : List ℕ → Option ℕ → Measured
+measured text at = record { count = command_count text at; room = length (command_bytes text at) }
 
-  bytes_none : command_count text at ≡ 0 → command_bytes text at ≡ []
+pub measured_none : (text : List ℕ) {at : Option ℕ} → at ≡ None → none ≡ measured text at
+unfolding command_bytes command_count
+measured_none text e = rw e
+
+bytes_none : (text : List ℕ) (at : Option ℕ) → command_count text at ≡ 0 → command_bytes text at ≡ []
+unfolding command_bytes
+bytes_none text None e = refl
+bytes_none text (Some at) e = rw (eq-eqb (command_count text (Some at)) 0 e)
+
+module _ (text : List ℕ) {given : Option ℕ} {at : ℕ} (is : given ≡ Some at) where
+  bytes_some : (command_count text given ≡ 0 → ⊥) → command_bytes text given ≡ written (value_at text at)
   unfolding command_bytes
-  bytes_none e = rw (eq-eqb (command_count text at) 0 e)
+  bytes_some h =
+      let k : command_count text (Some at) ≡ 0 → ⊥ = rw is at h in
+      rw (is, ne_eqb (command_count text (Some at)) 0 k)
 
-  bytes_some : (command_count text at ≡ 0 → ⊥) → command_bytes text at ≡ written (value_at text at)
-  unfolding command_bytes
-  bytes_some h = rw (ne_eqb (command_count text at) 0 h)
+  no_tokens_lem : command_count text given ≡ 0 → none ≡ measured text given
+  no_tokens_lem e = rw (bytes_none text given e, e)
 
-  no_tokens_lem : command_count text at ≡ 0 → none ≡ measured
-  no_tokens_lem e = rw (bytes_none e, e)
-
-  pub measured_none : at ≡ 0 → none ≡ measured
-  unfolding command_count
-  measured_none e = no_tokens_lem (rw (eq-eqb at 0 e))
-
-  module _ (h : at ≡ 0 → ⊥) {v : List ℕ} (e : v ≡ value_at text at) {s : Scan} (q : s ≡ scan_of v) where
-    count_as : command_count text at ≡ tokens_in s
+  module _ {v : List ℕ} (e : v ≡ value_at text at) {s : Result Sizes Fault} (q : s ≡ scan_of v) where
+    count_as : command_count text given ≡ tokens_in s
     unfolding command_count
-    count_as = rw (ne_eqb at 0 h, q, e)
+    count_as = rw (is, q, e)
 
-    pub measured_bad : (f : Fault) → s ≡ BadValue f → none ≡ measured
-    measured_bad f g = no_tokens_lem (count_as ∙ ap tokens_in g)
+    pub measured_bad : {f : Fault} → s ≡ Err f → none ≡ measured text given
+    measured_bad g = no_tokens_lem (count_as ∙ ap tokens_in g)
 
-    pub measured_empty : (z : Sizes) → s ≡ Whole z → z.tokens ≡ 0 → none ≡ measured
-    measured_empty z g k = no_tokens_lem (count_as ∙ ap tokens_in g ∙ k)
+    module _ {z : Sizes} (g : s ≡ Ok z) where
+      pub measured_empty : z.tokens ≡ 0 → none ≡ measured text given
+      measured_empty k = no_tokens_lem (count_as ∙ ap tokens_in g ∙ k)
 
-    pub measured_some : (z : Sizes) → s ≡ Whole z → (z.tokens ≡ 0 → ⊥) → record { count = z.tokens; room = z.room } ≡ measured
-    measured_some z g k =
-        let n : command_count text at ≡ z.tokens = count_as ∙ ap tokens_in g in
-        let b : command_bytes text at ≡ written v = bytes_some (λ (a : command_count text at ≡ 0). k (sym n ∙ a)) ∙ ap written (sym e) in
-        rw (n, b, scan_room v (sym q ∙ g))
+      pub measured_some : (z.tokens ≡ 0 → ⊥) → record { count = z.tokens; room = z.room } ≡ measured text given
+      measured_some k =
+          let n : command_count text given ≡ z.tokens = count_as ∙ ap tokens_in g in
+          let b : command_bytes text given ≡ written v = bytes_some (λ (a : command_count text given ≡ 0). k (sym n ∙ a)) ∙ ap written (sym e) in
+          rw (n, b, scan_room v (sym q ∙ g))
 
 -- ---- a command takes no more room than its text, and a zero byte
 
@@ -104,9 +107,10 @@ value_short text at =
     let b : length (drop at text) ≡ length text - at = length-drop at text in
     omega (arith, a, b)
 
-command_short : (text : List ℕ) (at : ℕ) → length (command_bytes text at) ≤ suc (length text)
+command_short : (text : List ℕ) (at : Option ℕ) → length (command_bytes text at) ≤ suc (length text)
 unfolding command_bytes
-command_short text at = by (eqb (command_count text at) 0)
+command_short text None = zero-le
+command_short text (Some at) = by (eqb (command_count text (Some at)) 0)
   where
     by : (b : Bool) → length (pick b [] (written (value_at text at))) ≤ suc (length text)
     by true = zero-le
@@ -118,16 +122,16 @@ command_short text at = by (eqb (command_count text at) 0)
 -- ---- a service's places
 
 module _ (text : List ℕ) (short : length text ≤ longest_text) where
-  room_bound : (at : ℕ) {m : Measured} → m ≡ measured text at → m.room ≤ longest_text + 1
+  room_bound : (at : Option ℕ) {m : Measured} → m ≡ measured text at → m.room ≤ longest_text + 1
   room_bound at e =
       let a : length (command_bytes text at) ≤ suc (length text) = command_short text at in
       rw e (omega (arith, a))
 
-  module _ {o : ℕ} (few : o < 4294967296) (at : ℕ) {m : Measured} (e : m ≡ measured text at) where
+  module _ {o : ℕ} (few : o < 4294967296) (at : Option ℕ) {m : Measured} (e : m ≡ measured text at) where
     pub first_fits : o + m.room < 18446744073709551616
     first_fits = omega (arith, room_bound at e)
 
-    pub second_fits : (next : ℕ) {m' : Measured} → m' ≡ measured text next → o + m.room + m'.room < 18446744073709551616
+    pub second_fits : (next : Option ℕ) {m' : Measured} → m' ≡ measured text next → o + m.room + m'.room < 18446744073709551616
     second_fits next f = omega (arith, room_bound at e, room_bound next f)
 
   module _ (d : Description) where
@@ -191,18 +195,22 @@ put_tail d o vs {t} h e =
     ap (λ (y : List ℕ). take o d ++ (t ++ y)) z
     ∙ (ap (λ (y : List ℕ). take o d ++ y) (append-nil t ∙ (e ∙ ap (λ (l : List ℕ). sets l 0 vs) k)) ∙ sym (sets_tail d o vs h))
 
-module _ (text : List ℕ) (at : ℕ) (d : List ℕ) (to : Tokens) (n : to.count ≡ command_count text at) where
+module _ (text : List ℕ) (at : Option ℕ) (d : List ℕ) (to : Tokens) (n : to.count ≡ command_count text at) where
   pub command_none : to.count ≡ 0 → d ≡ sets d to.at (command_bytes text at)
   command_none e = sym (ap (λ (vs : List ℕ). sets d to.at vs) (bytes_none text at (sym n ∙ e)))
+
+  pub command_absent : at ≡ None → d ≡ sets d to.at (command_bytes text at)
+  unfolding command_bytes
+  command_absent e = rw e
 
   pub command_past : length d < to.at → d ≡ sets d to.at (command_bytes text at)
   command_past h = sym (sets_out d to.at (command_bytes text at) (omega arith))
 
-  pub command_put : (to.count ≡ 0 → ⊥) → {v t : List ℕ} → v ≡ value_at text at → to.at ≤ length d
+  pub command_put : {a : ℕ} → at ≡ Some a → (to.count ≡ 0 → ⊥) → {v t : List ℕ} → v ≡ value_at text a → to.at ≤ length d
       → t ≡ sets (mid_of to.at (length d - to.at) d) 0 (written v) → put_mid to.at (length d - to.at) d t ≡ sets d to.at (command_bytes text at)
-  command_put z {v} e h q =
+  command_put s z {v} e h q =
       put_tail d to.at (written v) h q
-      ∙ ap (λ (vs : List ℕ). sets d to.at vs) (ap written e ∙ sym (bytes_some text at (λ (a : command_count text at ≡ 0). z (n ∙ a))))
+      ∙ ap (λ (vs : List ℕ). sets d to.at vs) (ap written e ∙ sym (bytes_some text s (λ (k : command_count text at ≡ 0). z (n ∙ k))))
 
 -- a service's commands, one after the other
 module _ (text : List ℕ) (d : Description) (to : Commands) (e : to ≡ places_of to.start.at text d) where

@@ -5,37 +5,27 @@ use lib.Dec.{ltb}
 use lib.ListN.{length, replicate, set}
 use mathlib.Core.Bool.{Bool, ◌||◌, false, true}
 use mathlib.Core.List.{List}
-use mathlib.Core.Path.{◌∙◌, ◌≡◌, ap, refl, subst, sym}
-use native.Mathlib.Nat.{eq-or-lt_of_le}
+use mathlib.Core.Path.{◌∙◌, ◌≡◌, ap, refl, sym}
+use native.Mathlib.Nat.{eq-or-lt_of_le, sub-zero}
 use native.Mathlib.Omega.{arith}
+use Rattle.std.specs.Prelude.{Err, Ok, Result}
 use Rattle.base.specs.Folds.{pick}
 use Rattle.base.proofs.Counting.{one_left}
 use Rattle.base.proofs.Tests.{either}
 use Rattle.service.specs.Limits.{max_services}
 use Rattle.load_text.specs.declared.Fault.{Fault}
-use Rattle.load_text.specs.declared.Verdict.TheVariants.{Bad as Bad, Good as Good}
 use Rattle.load_description.specs.Settings.{blank}
 use Rattle.load_description.specs.Texts.{text_read}
 use Rattle.load_description.specs.declared.Description.{Description}
-use Rattle.load_description.specs.declared.Read.{Read}
 use Rattle.loader.specs.Short.{Short}
-use Rattle.loader.specs.Texts.{descriptions_from, descriptions_on, no_descriptions}
-use Rattle.loader.specs.declared.Descriptions.{Descriptions}
+use Rattle.loader.specs.Texts.{descriptions_from, no_descriptions}
 use Rattle.load_lent.specs.Checks.{longest_text, longest_texts, sizes_from}
-use Rattle.load_lent.specs.Refusals.{bare}
-use Rattle.load_lent.specs.declared.Answer.{Answer}
-use Rattle.load_lent.specs.declared.Answer.TheVariants.{Accepted, Refused}
+use Rattle.load_lent.specs.Refusals.{bare, in_text, refused_in}
+use Rattle.load_lent.specs.declared.Refused.{Refused}
 
 -- ---- 5: no text is long
 
-abbrev Passes : Answer → Type 0
-Passes Accepted = Unit {0}
-Passes (Refused k s l c) = ⊥
-
-refused_not_accepted : {k s l c : ℕ} → Refused k s l c ≡ Accepted → ⊥
-refused_not_accepted e = subst Passes (sym e) tt
-
-sizes_from_lem : (text : ℕ → List ℕ) (t j m i : ℕ) → sizes_from text t j m ≡ Accepted → j ≤ i → i < j + m → length (text i) ≤ longest_text
+sizes_from_lem : (text : ℕ → List ℕ) (t j m i : ℕ) → sizes_from text t j m ≡ Ok tt → j ≤ i → i < j + m → length (text i) ≤ longest_text
 unfolding sizes_from
 sizes_from_lem text t j zero i e a b = omega arith
 sizes_from_lem text t j (suc m) i e a b =
@@ -43,36 +33,48 @@ sizes_from_lem text t j (suc m) i e a b =
     (λ r k. sizes_from_lem text (t + length (text j)) (j + 1) m i r (omega arith) (omega arith))
   where
     by : (x y : Bool) → ltb longest_text (length (text j)) ≡ x
-        → pick (x || y) (bare 5 j) (sizes_from text (t + length (text j)) (j + 1) m) ≡ Accepted
-        → (sizes_from text (t + length (text j)) (j + 1) m ≡ Accepted → j < i → length (text i) ≤ longest_text) → length (text i) ≤ longest_text
-    by true y q r on = absurd (refused_not_accepted r)
-    by false true q r on = absurd (refused_not_accepted r)
+        → pick (x || y) (Err (bare 5 j)) (sizes_from text (t + length (text j)) (j + 1) m) ≡ Ok tt
+        → (sizes_from text (t + length (text j)) (j + 1) m ≡ Ok tt → j < i → length (text i) ≤ longest_text) → length (text i) ≤ longest_text
+    by true y q r on = cc
+    by false true q r on = cc
     by false false q r on = either (eq-or-lt_of_le a) (λ (k : j ≡ i). rw (← k) (ltb-false longest_text (length (text j)) q)) (λ (k : j < i). on r k)
 
-pub sizes_short : (text : ℕ → List ℕ) (n : ℕ) → sizes_from text 0 0 n ≡ Accepted → Short text n
+pub sizes_short : (text : ℕ → List ℕ) (n : ℕ) → sizes_from text 0 0 n ≡ Ok tt → Short text n
 sizes_short text n e = record { each = λ j l. sizes_from_lem text 0 0 n j e zero-le (omega arith) }
 
--- ---- the texts in turn
+-- ---- the texts in turn: those before j are read, as ds, put into the places none
 
-pub texts_end : (text : ℕ → List ℕ) (ds : List Description) (j m : ℕ) → m ≡ 0 → descriptions_from text ds j m ≡ record { answer = Accepted; descriptions = ds }
-unfolding descriptions_from
-texts_end text ds j m e = rw e
+pub record Reading (text : ℕ → List ℕ) (n : ℕ) (none ds : List Description) (j : ℕ) : Type 0 where
+  pub within : j ≤ n
+  pub rest : descriptions_from text none 0 n ≡ descriptions_from text ds j (n - j)
 
-pub texts_blank : (text : ℕ → List ℕ) (n : ℕ) {d : Description} {r : Descriptions} → d ≡ blank → r ≡ descriptions_from text (replicate max_services d) 0 n
-    → r ≡ descriptions_from text no_descriptions 0 n
+pub reading_none : (text : ℕ → List ℕ) (n : ℕ) (none : List Description) → Reading text n none none 0
+reading_none text n none = record { within = omega arith; rest = rw (sub-zero n) }
+
+pub texts_blank : (text : ℕ → List ℕ) (n : ℕ) {d : Description} {r : Result (List Description) Refused} → d ≡ blank
+    → r ≡ descriptions_from text (replicate max_services d) 0 n → r ≡ descriptions_from text no_descriptions 0 n
 texts_blank text n e q = q ∙ ap (λ (a : Description). descriptions_from text (replicate max_services a) 0 n) e
 
-module _ (text : ℕ → List ℕ) (n : ℕ) (ds : List Description) where
-  module _ (j : ℕ) (h : j < n) {t : List ℕ} (ti : t ≡ text j) {r : Read} (e : r ≡ text_read t) where
-    pub texts_read : r.answer ≡ Good → {d : Description} → d ≡ r.description
-        → descriptions_from text ds j (n - j) ≡ descriptions_from text (set ds j d) (j + 1) (n - (j + 1))
-    unfolding descriptions_from
-    texts_read g q = rw (one_left n j h, ← ti, ← e, g, ← q)
+module _ {text : ℕ → List ℕ} {n : ℕ} {none ds : List Description} {j : ℕ} (k : Reading text n none ds j) where
+  pub reading_all : n ≤ j → Ok ds ≡ descriptions_from text none 0 n
+  unfolding descriptions_from
+  reading_all h =
+      let z : n - j ≡ 0 = omega arith in
+      sym (k.rest ∙ rw z)
 
-    pub texts_bad : {f : Fault} → r.answer ≡ Bad f → {o : Descriptions} (next : Descriptions) → o ≡ descriptions_on t j r.answer ds next
-        → descriptions_from text ds j (n - j) ≡ o
+  module _ (h : j < n) {t : List ℕ} (ti : t ≡ text j) {r : Result Description Fault} (e : r ≡ text_read t) where
+    abbrev onward : List ℕ → Result Description Fault → Result (List Description) Refused
+    onward u q = in_text u j q (λ d. descriptions_from text (set ds j d) (j + 1) (n - (j + 1)))
+
+    step : descriptions_from text ds j (n - j) ≡ onward t r
     unfolding descriptions_from
-    texts_bad g next q = rw (one_left n j h, ← ti, ← e, q, g)
+    step = rw (one_left n j h) refl ∙ (ap (λ (u : List ℕ). onward u (text_read u)) (sym ti) ∙ ap (onward t) (sym e))
+
+    pub reading_more : {d : Description} → r ≡ Ok d → Reading text n none (set ds j d) (j + 1)
+    reading_more g = record { within = omega arith; rest = k.rest ∙ (step ∙ ap (onward t) g) }
+
+    pub reading_bad : {f : Fault} → r ≡ Err f → {o : Refused} → o ≡ refused_in t j f → Err o ≡ descriptions_from text none 0 n
+    reading_bad g q = ap Err q ∙ sym (k.rest ∙ (step ∙ ap (onward t) g))
 
 -- ---- the tokens
 

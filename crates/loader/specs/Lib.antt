@@ -3,4 +3,5 @@ pub mod Short
 pub mod Tokens
 pub mod Texts
 pub mod Load
+pub mod Inner
 pub mod Examples

@@ -1,15 +1,12 @@
 -- Trusted: the load, whole: "Order: 1; 2; all names, 3 then 4 each; all texts, 5; then each text in turn ..; then 15 by service and line; 16; 25."
-use Rattle.std.specs.Prelude.{ℕ, Bool, List, leb, length, replicate}
+use Rattle.std.specs.Prelude.{ℕ, Bool, List, Result, Ok, Err, leb, length, replicate}
 use Rattle.std.proofs.lemmas.List.Edits.{sets}
 use Rattle.base.specs.Folds.{pick}
 use Rattle.service.specs.Limits.{max_services}
 use Rattle.service.specs.Settings.{default_settings, no_services}
 use Rattle.service.specs.declared.Settings.{Settings}
 use Rattle.load_description.specs.declared.Description.{Description}
-use Rattle.load_lent.specs.declared.Answer.{Answer}
-use Rattle.load_lent.specs.declared.Answer.TheVariants.{Accepted, Refused}
-use Rattle.loader.specs.declared.Descriptions.{Descriptions}
-use Rattle.load_links.specs.declared.Services.{Services}
+use Rattle.load_lent.specs.declared.Refused.{Refused}
 use Rattle.loader.specs.declared.Loaded.{Loaded}
 use Rattle.load_lent.specs.Parts.{service_count, positioned, name_at, text_at}
 use Rattle.load_lent.specs.Checks.{names_from, sizes_from}
@@ -23,17 +20,18 @@ pub record Outcome : Type 0 where
   pub loaded : Loaded
   pub buffer : List ℕ
 
--- "The table beside a refusal is that of no services"; the buffer is as it was
-abbrev pub refused_with : List ℕ → Answer → Outcome
-refused_with buffer a = record {
-  loaded = record { answer = a; table = no_services; commands = no_commands };
-  buffer = buffer;
-}
+-- "The table beside a refusal is that of no services"
+abbrev pub refused : Refused → Loaded
+refused r = record { answer = Err r; table = no_services; commands = no_commands }
+
+-- the buffer is as it was
+abbrev pub refused_with : List ℕ → Refused → Outcome
+refused_with buffer r = record { loaded = refused r; buffer = buffer }
 
 -- the way on after a pass
-abbrev pub passed : List ℕ → Answer → Outcome → Outcome
-passed buffer Accepted on = on
-passed buffer (Refused n s l c) on = refused_with buffer (Refused n s l c)
+abbrev pub passed : {A : Type 0} → List ℕ → Result A Refused → (A → Outcome) → Outcome
+passed buffer (Ok x) on = on x
+passed buffer (Err r) on = refused_with buffer r
 
 -- the way on after a test: else a refusal of no line
 abbrev pub tested : List ℕ → Bool → ℕ → ℕ → Outcome → Outcome
@@ -45,7 +43,7 @@ stored text buffer n ds vs =
     tested buffer (leb (length (bytes_from text ds 0 n)) (length buffer)) 25 0
     (record {
       loaded = record {
-        answer = Accepted;
+        answer = Ok tt;
         table = record { count = n; services = vs };
         commands = commands_from text ds 0 no_commands 0 n;
       };
@@ -56,24 +54,23 @@ stored text buffer n ds vs =
 unfoldable pub acyclic : (ℕ → List ℕ) → List ℕ → ℕ → List Description → List Settings → Outcome
 acyclic text buffer n ds vs = tested buffer (leb n (lowest_cyclic vs n)) 16 (lowest_cyclic vs n) (stored text buffer n ds vs)
 
-abbrev pub with_services : (ℕ → List ℕ) → List ℕ → ℕ → List Description → Services → Outcome
-with_services text buffer n ds r = passed buffer r.answer (acyclic text buffer n ds r.services)
+abbrev pub with_services : (ℕ → List ℕ) → List ℕ → ℕ → List Description → Result (List Settings) Refused → Outcome
+with_services text buffer n ds r = passed buffer r (λ vs. acyclic text buffer n ds vs)
 
-abbrev pub with_descriptions : (ℕ → List ℕ) → (ℕ → List ℕ) → List ℕ → ℕ → Descriptions → Outcome
+abbrev pub with_descriptions : (ℕ → List ℕ) → (ℕ → List ℕ) → List ℕ → ℕ → Result (List Description) Refused → Outcome
 with_descriptions name text buffer n r =
-    passed buffer r.answer
-    (with_services text buffer n r.descriptions
-    (services_from name text r.descriptions n (replicate max_services default_settings) 0 n))
+    passed buffer r
+    (λ ds. with_services text buffer n ds (services_from name text ds n (replicate max_services default_settings) 0 n))
 
 -- the texts of n services whose names are good: "all texts, 5; then each text in turn"
 unfoldable pub load_texts : (ℕ → List ℕ) → (ℕ → List ℕ) → ℕ → List ℕ → Outcome
 load_texts name text n buffer =
     passed buffer (sizes_from text 0 0 n)
-    (with_descriptions name text buffer n (descriptions_from text no_descriptions 0 n))
+    (λ u. with_descriptions name text buffer n (descriptions_from text no_descriptions 0 n))
 
 -- a set of n services, whose names and texts are given: "all names, 3 then 4 each", before the texts
 unfoldable pub load_set : (ℕ → List ℕ) → (ℕ → List ℕ) → ℕ → List ℕ → Outcome
-load_set name text n buffer = passed buffer (names_from name 0 n) (load_texts name text n buffer)
+load_set name text n buffer = passed buffer (names_from name 0 n) (λ u. load_texts name text n buffer)
 
 -- the load of lent bytes and positions, with a lent buffer for the tokens
 unfoldable pub load : List ℕ → List ℕ → List ℕ → Outcome

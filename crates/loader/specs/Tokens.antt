@@ -1,11 +1,11 @@
 -- Trusted: "The tokens of the standing commands, unused ones too, go to a lent buffer from its start, by service, command before stop-command, each
 -- followed by a zero byte".
-use Rattle.std.specs.Prelude.{ℕ, zero, suc, ◌+◌, List, [], ◌++◌, eqb, length, set, replicate}
+use Rattle.std.specs.Prelude.{ℕ, zero, suc, ◌+◌, List, [], ◌++◌, Option, Some, None, Result, Ok, Err, eqb, length, set, replicate}
 use Rattle.base.specs.Folds.{pick}
 use Rattle.service.specs.Limits.{max_services}
 use Rattle.load_value.specs.Values.{scan_of, written}
-use Rattle.load_value.specs.declared.Scan.{Scan}
-use Rattle.load_value.specs.declared.Scan.TheVariants.{Tokens as Whole, Bad as BadValue}
+use Rattle.load_text.specs.declared.Fault.{Fault}
+use Rattle.load_value.specs.declared.Sizes.{Sizes}
 use Rattle.load_description.specs.declared.Description.{Description}
 use Rattle.load_description.specs.Settings.{description_at, value_at}
 use Rattle.loader.specs.declared.tokens.Tokens.{Tokens}
@@ -14,17 +14,19 @@ use Rattle.loader.specs.declared.tokens.Commands.{Commands}
 -- ---- one command
 
 -- how many tokens a value has; a bad one has none, and a value that was read is never bad
-abbrev pub tokens_in : Scan → ℕ
-tokens_in (Whole z) = z.tokens
-tokens_in (BadValue f) = 0
+abbrev pub tokens_in : Result Sizes Fault → ℕ
+tokens_in (Ok z) = z.tokens
+tokens_in (Err f) = 0
 
--- "Commands are lists of tokens": how many the command has whose value begins at an offset of a text; at 0 there is none
-unfoldable pub command_count : List ℕ → ℕ → ℕ
-command_count text at = pick (eqb at 0) 0 (tokens_in (scan_of (value_at text at)))
+-- "Commands are lists of tokens": how many the command has whose value begins at an offset of a text, if there is one
+unfoldable pub command_count : List ℕ → Option ℕ → ℕ
+command_count text None = 0
+command_count text (Some at) = tokens_in (scan_of (value_at text at))
 
 -- its tokens as they go to the buffer, where it has any
-unfoldable pub command_bytes : List ℕ → ℕ → List ℕ
-command_bytes text at = pick (eqb (command_count text at) 0) [] (written (value_at text at))
+unfoldable pub command_bytes : List ℕ → Option ℕ → List ℕ
+command_bytes text None = []
+command_bytes text (Some at) = pick (eqb (command_count text (Some at)) 0) [] (written (value_at text at))
 
 -- ---- what is kept of a service
 

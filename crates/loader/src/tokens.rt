@@ -6,7 +6,7 @@ ghost use Rattle.loader.specs.Short.{most_room};
 ghost use Rattle.loader.specs.Tokens.{command_bytes, command_count, kept_of, places_of, room_of};
 
 use load_description::{Description, value_at};
-use load_value::{Scan, scan_value, write_value};
+use load_value::{scan_value, write_value};
 
 // Where the tokens of a command begin in the lent buffer, and how many they are.
 #[derive(Clone, Copy)]
@@ -49,34 +49,34 @@ pub struct Place {
     pub end: usize,
 }
 
-// The command whose value begins at an offset of a text; at 0 there is none.
-fn measure(text: &[u8], at: usize) -> Measured
+// The command whose value begins at an offset of a text.
+fn measure(text: &[u8], at: Option<usize>) -> Measured
     ensures { result ≡ record { count = command_count text.now at; room = length (command_bytes text.now at) } }
 {
-    if at == 0 {
+    let Some(at) = at else {
         return Measured::NONE;
-    }
+    };
     match scan_value(value_at(text, at)) {
-        Scan::Tokens(z) => {
-            let count = z.tokens;
-            let room = z.room;
-            if count == 0 {
+        Ok(sizes) => {
+            if sizes.tokens == 0 {
                 return Measured::NONE;
             }
-            Measured { count, room }
+            Measured {
+                count: sizes.tokens,
+                room: sizes.room,
+            }
         }
-        Scan::Bad(_) => Measured::NONE,
+        Err(_) => Measured::NONE,
     }
 }
 
 // Where what is kept of a service is, from the place o on.
-pub(crate) fn place_service(text: &[u8], d: Description, o: usize) -> Place
+pub(crate) fn place_service(text: &[u8], d: &Description, o: usize) -> Place
     requires { (length text.now ≤ longest_text) × (o < 4294967296) }
-    ensures { (result ≡ record { commands = places_of o text.now d; end = o + room_of text.now d }) × (room_of text.now d ≤ most_room) }
+    ensures { (result ≡ record { commands = places_of o text.now d.now; end = o + room_of text.now d.now }) × (room_of text.now d.now ≤ most_room) }
 {
-    let kept = d.kept;
-    let start = measure(text, kept.command);
-    let stop = measure(text, kept.stop);
+    let start = measure(text, d.kept.command);
+    let stop = measure(text, d.kept.stop);
     let between = o + start.room;
     Place {
         commands: Commands {
@@ -94,25 +94,24 @@ pub(crate) fn place_service(text: &[u8], d: Description, o: usize) -> Place
 }
 
 // Writes the tokens of a command to their place. What does not fit is dropped.
-fn write_command(text: &[u8], at: usize, to: Tokens, buffer: &mut [u8])
+fn write_command(text: &[u8], at: Option<usize>, to: Tokens, buffer: &mut [u8])
     requires { to.count ≡ command_count text.now at }
     ensures { buffer.new ≡ sets buffer.old to.at (command_bytes text.now at) }
 {
-    let place = to.at;
-    if to.count == 0 {
+    let Some(at) = at else {
         return;
-    }
-    if place <= buffer.len() {
+    };
+    let place = to.at;
+    if to.count != 0 && place <= buffer.len() {
         write_value(value_at(text, at), &mut buffer[place..]);
     }
 }
 
 // Writes what is kept of a service to its places. What does not fit is dropped.
-pub(crate) fn write_service(text: &[u8], d: Description, to: Commands, buffer: &mut [u8])
-    requires { to ≡ places_of to.start.at text.now d }
-    ensures { buffer.new ≡ sets buffer.old to.start.at (kept_of text.now d) }
+pub(crate) fn write_service(text: &[u8], d: &Description, to: Commands, buffer: &mut [u8])
+    requires { to ≡ places_of to.start.at text.now d.now }
+    ensures { buffer.new ≡ sets buffer.old to.start.at (kept_of text.now d.now) }
 {
-    let kept = d.kept;
-    write_command(text, kept.command, to.start, buffer);
-    write_command(text, kept.stop, to.stop, buffer);
+    write_command(text, d.kept.command, to.start, buffer);
+    write_command(text, d.kept.stop, to.stop, buffer);
 }

@@ -3,4 +3,4 @@ use Rattle.loader.proofs.Laws.{texts_blank}
 use Rattle.loader.proofs.read_texts.Goals as goal
 
 pub returns : goal.returns
-returns c = texts_blank _ _ c.blank-none.ensures c.read_into.ensures
+returns c = texts_blank _ _ c.blank.ensures c.read_into.ensures

@@ -1,8 +1,0 @@
--- `refuse_text` meets its contract.
-use Rattle.loader.proofs.refuse_text.Goals as goal
-
-pub returns-in-Good : goal.returns-in-Good
-returns-in-Good c = rw c.in-Good.is
-
-pub returns-in-Bad : goal.returns-in-Bad
-returns-in-Bad c = rw (c.refused_in-answer.ensures, c.in-Bad.is)
