@@ -25,7 +25,7 @@ use Rattle.engine_choice.specs.Standing.{standing}
 use Rattle.engine_choice.specs.Fitting.{lose_by, abandon_by, settle_by, wake_by, release_by, begin_by, end_by, expire_by}
 use Rattle.engine_choice.proofs.Gathered.{lost_is, user_is, barred_is, unready_is, blocked_is, needed_is, called_is}
 use Rattle.engine_choice.specs.declared.Fits.{Fits}
-use Rattle.engine_choice.specs.Fits.{no_fits, fitting, fitted, try_in, later_choice, choice_from}
+use Rattle.engine_choice.specs.Fits.{no_fits, fitting, fitted, try_in, choice_from}
 use Rattle.engine_choice.specs.Lost.{lost_by_user}
 
 module _ (t : Table) (x : State) (l : t.count ≤ 64) where
@@ -137,7 +137,7 @@ module _ (t : Table) (x : State) (l : t.count ≤ 64) where
 
   -- what is chosen from the sets is what the rules choose
   pub choice_as : choice_from (fitted t x here t.count) t.count ≡ chosen t x
-  unfolding choice_from later_choice chosen chosen_from
+  unfolding choice_from chosen chosen_from
   choice_as =
       try_as Lose _ _ (try_as Abandon _ _ (try_as Settle _ _ (try_as Wake _ _
       (try_as Release _ _ (try_as Begin _ _ (try_as End _ _ (try_as Expire _ _ refl)))))))

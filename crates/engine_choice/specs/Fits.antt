@@ -1,5 +1,5 @@
 -- Of the code: for each rule the set of services that it fits, and the choice from those sets.
-use Rattle.std.specs.Prelude.{ℕ, ◌&&◌, ltb}
+use Rattle.std.specs.Prelude.{ℕ, ◌&&◌, List, [], ◌∷◌, ltb}
 use Rattle.std.specs.Int.Bits.{bit_or}
 use Rattle.base.specs.Folds.{pick, fold, first}
 use Rattle.base.specs.Sets.{has_bit, single}
@@ -47,10 +47,23 @@ fitted t x st n = fold (fitting t x st) no_fits n
 abbrev pub try_in : Rule → ℕ → ℕ → Choice → Choice
 try_in k m n z = pick (ltb (first (has_bit m) n) n) (Fit k (first (has_bit m) n)) z
 
-unfoldable pub later_choice : Fits → ℕ → Choice
-later_choice f n =
-    try_in Release f.release n (try_in Begin f.begin n (try_in End f.end n (try_in Expire f.expire n NoRule)))
+-- the rules of a list tried in turn, each on its set
+abbrev pub in_turn : List (Rule × ℕ) → ℕ → Choice
+in_turn [] n = NoRule
+in_turn (p ∷ ps) n = try_in p.0 p.1 n (in_turn ps n)
+
+-- the rules with their sets, in paper 01's order
+abbrev pub tries : Fits → List (Rule × ℕ)
+tries f =
+    (Lose, f.lose)
+    ∷ (Abandon, f.abandon)
+    ∷ (Settle, f.settle)
+    ∷ (Wake, f.wake)
+    ∷ (Release, f.release)
+    ∷ (Begin, f.begin)
+    ∷ (End, f.end)
+    ∷ (Expire, f.expire)
+    ∷ []
 
 unfoldable pub choice_from : Fits → ℕ → Choice
-choice_from f n =
-    try_in Lose f.lose n (try_in Abandon f.abandon n (try_in Settle f.settle n (try_in Wake f.wake n (later_choice f n))))
+choice_from f n = in_turn (tries f) n

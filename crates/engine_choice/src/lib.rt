@@ -5,7 +5,7 @@
 mod standing;
 
 ghost use Rattle.std.specs.Prelude.{◌≡◌};
-ghost use Rattle.engine_choice.specs.Fits.{no_fits, added_in, fitted_in, later_choice, choice_from};
+ghost use Rattle.engine_choice.specs.Fits.{no_fits, added_in, fitted_in, choice_from};
 
 use base::{lowest, single_of};
 use rules::{Choice, Rule};
@@ -66,48 +66,25 @@ pub fn fit(f: Fits, now: u64, v: Settings, r: Record, st: Standing, s: usize) ->
     added(f, w, s)
 }
 
-// Rules 5 to 8.
-fn choose_later(f: Fits, n: usize) -> Choice
-    ensures { result ≡ later_choice f n }
-{
-    let release = lowest(f.release, n);
-    if release < n {
-        return Choice::Fit(Rule::Release, release);
-    }
-    let begin = lowest(f.begin, n);
-    if begin < n {
-        return Choice::Fit(Rule::Begin, begin);
-    }
-    let end = lowest(f.end, n);
-    if end < n {
-        return Choice::Fit(Rule::End, end);
-    }
-    let expire = lowest(f.expire, n);
-    if expire < n {
-        return Choice::Fit(Rule::Expire, expire);
-    }
-    Choice::Quiet
-}
-
-// Rules 1 to 4, then the later ones.
+// The rules are tried in paper 01's order, each on the lowest service that it fits.
 pub fn choose(f: Fits, n: usize) -> Choice
     ensures { result ≡ choice_from f n }
 {
-    let lose = lowest(f.lose, n);
-    if lose < n {
-        return Choice::Fit(Rule::Lose, lose);
+    let tries = [
+        (Rule::Lose, f.lose),
+        (Rule::Abandon, f.abandon),
+        (Rule::Settle, f.settle),
+        (Rule::Wake, f.wake),
+        (Rule::Release, f.release),
+        (Rule::Begin, f.begin),
+        (Rule::End, f.end),
+        (Rule::Expire, f.expire),
+    ];
+    for (rule, set) in tries {
+        let s = lowest(set, n);
+        if s < n {
+            return Choice::Fit(rule, s);
+        }
     }
-    let abandon = lowest(f.abandon, n);
-    if abandon < n {
-        return Choice::Fit(Rule::Abandon, abandon);
-    }
-    let settle = lowest(f.settle, n);
-    if settle < n {
-        return Choice::Fit(Rule::Settle, settle);
-    }
-    let wake = lowest(f.wake, n);
-    if wake < n {
-        return Choice::Fit(Rule::Wake, wake);
-    }
-    choose_later(f, n)
+    Choice::Quiet
 }

@@ -1,24 +1,19 @@
 -- `choose` meets its contract: the rules are tried in order.
-use Rattle.engine_choice.specs.Fits.{choice_from}
-use Rattle.engine_choice.proofs.Tried.{in_fits, in_none}
+use Rattle.std.proofs.Common.{refl}
+use Rattle.rules.specs.declared.Rule.TheVariants.{Lose}
+use Rattle.engine_choice.specs.Fits.{choice_from, tries}
+use Rattle.engine_choice.proofs.Tried.{turn_fits, turn_none, turn_all}
 use Rattle.engine_choice.proofs.choose.Goals as goal
 
-pub returns-then-lose-n : goal.returns-then-lose-n
+pub loop-rule-init : goal.loop-rule-init
 unfolding choice_from
-returns-then-lose-n c = search in_fits
+loop-rule-init c = refl
 
-pub returns-then-abandon-n : goal.returns-then-abandon-n
-unfolding choice_from
-returns-then-abandon-n c = search (in_fits, in_none)
+pub returns-then-s-n : goal.returns-then-s-n
+returns-then-s-n c = turn_fits _ (tries c.args.f) _ _ _ c.loop-rule.invariant c.loop-rule-test.true c.lowest-s.ensures c.if-s-n.true
 
-pub returns-then-settle-n : goal.returns-then-settle-n
-unfolding choice_from
-returns-then-settle-n c = search (in_fits, in_none) depth 6
-
-pub returns-then-wake-n : goal.returns-then-wake-n
-unfolding choice_from
-returns-then-wake-n c = search (in_fits, in_none) depth 7
+pub loop-rule-preserved : goal.loop-rule-preserved
+loop-rule-preserved c = turn_none _ (tries c.args.f) _ _ _ c.loop-rule.invariant c.loop-rule-test.true c.lowest-s.ensures c.if-s-n.false
 
 pub returns : goal.returns
-unfolding choice_from
-returns c = search (in_fits, in_none) depth 8
+returns c = turn_all (Lose, 0) (tries c.args.f) _ _ _ c.loop-rule.invariant c.loop-rule-test.false
