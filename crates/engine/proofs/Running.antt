@@ -19,15 +19,14 @@ use Rattle.service.specs.Records.{record_at, with_record}
 use Rattle.service.specs.Numbers.{is_quiet, action_service, action_number}
 use Rattle.service.specs.declared.Action.{Action}
 use Rattle.service.specs.declared.Action.TheVariants.{Quiet}
-use Rattle.std.specs.Prelude.{Ok}
+use Rattle.std.specs.Prelude.{Ok, Some, None}
 use Rattle.service.specs.declared.Answered.{Answered}
 use Rattle.service.specs.declared.Record.{Record}
 use Rattle.service.specs.declared.Table.{Table}
 use Rattle.service.specs.declared.Settings.{Settings}
 use Rattle.service.specs.declared.State.{State}
 use Rattle.rules.specs.declared.Rule.{Rule}
-use Rattle.rules.specs.declared.Choice.{Choice}
-use Rattle.rules.specs.declared.Choice.TheVariants.{Quiet as NoRule, Fit}
+use Rattle.rules.specs.Choice.{Choice}
 use Rattle.rules.specs.WellFormed.{formed}
 use Rattle.rules.specs.Rules.{Step, handed_by, left_by, next_action}
 use Rattle.rules.specs.Runs.{state_after, action_after, steps_to_quiet, written, written_services, written_actions}
@@ -146,14 +145,14 @@ module _
     {t : Table} {x : State} {s a : List ℕ} {m : ℕ} {s' a' : List ℕ} {y : State} {last : Action} {k : ℕ} {st : Standing} {f : Fits} {j : ℕ} {c : Choice}
     (h : Running t x s a m s' a' y last k) (few : t.count ≤ max_services) (g : Fitting t y st f j) (z : t.count ≤ j)
     (e : c ≡ choice_from f t.count) where
-  pub turn_inside : {i : Rule} {d : ℕ} → c ≡ Fit i d → d < max_services
+  pub turn_inside : {i : Rule} {d : ℕ} → c ≡ Some (i, d) → d < max_services
   turn_inside {i} {d} p = le_trans (chosen_below t y c h.passed_list (choice_made few g z e) i d p) few
 
-  pub turn_quiet : k < m → c ≡ NoRule → Advanced t x m s a (record { last = Quiet; count = k; state = y }) s' a'
+  pub turn_quiet : k < m → c ≡ None → Advanced t x m s a (record { last = Quiet; count = k; state = y }) s' a'
   turn_quiet l p = running_quiet h l (step_quiet t y c h.passed_list (choice_made few g z e) p)
 
   -- v is what the code has read for the service d, and u, r and b are what it has found for the rule i and that service
-  pub turn_on : {s'' a'' : List ℕ} {i : Rule} {d : ℕ} {v : Settings} {u : Bool} {r : Record} {b : Action} → k < m → c ≡ Fit i d → v ≡ settings_at t d
+  pub turn_on : {s'' a'' : List ℕ} {i : Rule} {d : ℕ} {v : Settings} {u : Bool} {r : Record} {b : Action} → k < m → c ≡ Some (i, d) → v ≡ settings_at t d
       → u ≡ overlap v.hard st.user
       → r ≡ pick (sound v y.clock (record_at y d)) (left_by i u v y.clock (record_at y d)) (record_at y d)
       → b ≡ handed_by i v (record_at y d) d

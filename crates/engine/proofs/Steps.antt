@@ -13,8 +13,8 @@ use Rattle.service.specs.declared.Record.{Record}
 use Rattle.service.specs.declared.Table.{Table}
 use Rattle.service.specs.declared.State.{State}
 use Rattle.rules.specs.declared.Rule.{Rule}
-use Rattle.rules.specs.declared.Choice.{Choice}
-use Rattle.rules.specs.declared.Choice.TheVariants.{Quiet as NoRule, Fit}
+use Rattle.rules.specs.Choice.{Choice}
+use Rattle.std.specs.Prelude.{Some, None}
 use Rattle.rules.specs.WellFormed.{formed}
 use Rattle.rules.specs.Rules.{Step, lost_to_user, left_by, leaves, handed_by, hands, chosen, act, act_on, next_action}
 use Rattle.rules.proofs.Next.{Chosen, rule, chosen_is}
@@ -27,18 +27,18 @@ use Rattle.engine_choice.proofs.Sets.{lost_to_user_lem}
 -- c is what the code chose
 module _ (t : Table) (y : State) (c : Choice) (f : formed t y ≡ true) (choice : c ≡ chosen t y) where
   -- a service that is chosen is one of the set
-  pub chosen_below : (k : Rule) (s : ℕ) → c ≡ Fit k s → s < t.count
+  pub chosen_below : (k : Rule) (s : ℕ) → c ≡ Some (k, s) → s < t.count
   chosen_below k s h = go (subst (Chosen t y) (sym choice ∙ h) (chosen_is t y))
     where
-      go : Chosen t y (Fit k s) → s < t.count
+      go : Chosen t y (Some (k, s)) → s < t.count
       go (rule k s l b) = l.bound
 
-  pub step_quiet : c ≡ NoRule → ◌≡◌ {A = Step} (record { action = Quiet; state = y }) (next_action t y)
+  pub step_quiet : c ≡ None → ◌≡◌ {A = Step} (record { action = Quiet; state = y }) (next_action t y)
   unfolding next_action act_on
   step_quiet h = rw (sym choice ∙ h)
 
   -- m is the set that the code gathered for rule 1's cause; what a rule hands out is not quiet
-  pub step_fits : (k : Rule) (s m : ℕ) (u : Bool) (r : Record) (a : Action) → m ≡ lost_by_user t y → c ≡ Fit k s
+  pub step_fits : (k : Rule) (s m : ℕ) (u : Bool) (r : Record) (a : Action) → m ≡ lost_by_user t y → c ≡ Some (k, s)
       → u ≡ overlap (settings_at t s).hard m
       → r ≡ pick (sound (settings_at t s) y.clock (record_at y s)) (left_by k u (settings_at t s) y.clock (record_at y s)) (record_at y s)
       → a ≡ handed_by k (settings_at t s) (record_at y s) s

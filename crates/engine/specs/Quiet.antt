@@ -1,9 +1,8 @@
 -- Of the code: a run: the room it wants, what it gives back and leaves, and that a run to quiet has come to quiet within its room.
-use Rattle.std.specs.Prelude.{ℕ, ◌*◌, ◌≤◌, ◌≡◌, Bool, true, ◌&&◌, List, leb, length}
+use Rattle.std.specs.Prelude.{ℕ, ◌*◌, ◌≤◌, ◌≡◌, Bool, true, ◌&&◌, List, leb, length, Err, Ok, Result}
 use Rattle.base.specs.Folds.{first}
 use Rattle.service.specs.Limits.{most_actions}
 use Rattle.service.specs.Numbers.{action_number, action_service, is_quiet}
-use Rattle.std.specs.Prelude.{Err, Ok, Result}
 use Rattle.service.specs.declared.Answered.{Answered}
 use Rattle.service.specs.declared.Refusal.{Refusal}
 use Rattle.service.specs.declared.Table.{Table}

@@ -17,7 +17,6 @@ pub use engine_calls::{clock, end, query, start, stop, stop_all};
 use engine_choice::{Fits, Standing, choose, fit, noted};
 use engine_records::leave;
 use engine_wellformed::is_formed;
-use rules::Choice;
 pub use service::{
     Action, Answered, Cause, Kind, LAST_CLOCK, MAX_ACTIONS, MAX_SERVICES, Phase, Record, Refusal,
     Settings, Signal, State, Table,
@@ -65,8 +64,7 @@ fn advance(t: Table, x: State, limit: usize, services: &mut [u64], actions: &mut
         for j in 0..t.count {
             f = fit(f, y.clock, t.services[j], y.records[j], st, j);
         }
-        let c = choose(f, t.count);
-        let Choice::Fit(rule, s) = c else {
+        let Some((rule, s)) = choose(f, t.count) else {
             return Progress {
                 last: Action::Quiet,
                 count: k,

@@ -4,8 +4,7 @@ use mathlib.Core.Path.{◌≡◌, sym, ◌∙◌}
 use mathlib.Core.Bool.{Bool, true}
 use Rattle.base.proofs.Loops.{Folded, folded_none, folded_more, folded_all}
 use Rattle.service.specs.Limits.{max_services}
-use Rattle.std.specs.Prelude.{Option, None}
-use Rattle.std.specs.Prelude.{Ok}
+use Rattle.std.specs.Prelude.{Option, None, Ok}
 use Rattle.service.specs.Records.{record_at}
 use Rattle.service.specs.declared.Table.{Table}
 use Rattle.service.specs.declared.State.{State}

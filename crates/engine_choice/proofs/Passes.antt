@@ -9,7 +9,7 @@ use Rattle.service.specs.Settings.{settings_at}
 use Rattle.service.specs.declared.Settings.{Settings}
 use Rattle.service.specs.declared.Table.{Table}
 use Rattle.service.specs.declared.State.{State}
-use Rattle.rules.specs.declared.Choice.{Choice}
+use Rattle.rules.specs.Choice.{Choice}
 use Rattle.rules.specs.Rules.{chosen}
 use Rattle.engine_choice.specs.declared.standing.Standing.{Standing}
 use Rattle.engine_choice.specs.Standing.{nowhere, noted_in, noting, standing}

@@ -16,8 +16,8 @@ use Rattle.service.specs.declared.Table.{Table}
 use Rattle.service.specs.declared.State.{State}
 use Rattle.rules.specs.declared.Rule.{Rule}
 use Rattle.rules.specs.declared.Rule.TheVariants.{Lose, Abandon, Settle, Wake, Release, Begin, End, Expire}
-use Rattle.rules.specs.declared.Choice.{Choice}
-use Rattle.rules.specs.declared.Choice.TheVariants.{Fit}
+use Rattle.rules.specs.Choice.{Choice}
+use Rattle.std.specs.Prelude.{Some}
 use Rattle.rules.specs.Dependencies.{hard_links, strong_links, all_links, hard, strong, soft, depends, serving, barred, blocked, needed}
 use Rattle.rules.specs.Rules.{running, fits, lost_to_user, chosen_from, chosen}
 use Rattle.engine_choice.specs.declared.standing.Standing.{Standing}
@@ -130,9 +130,9 @@ module _ (t : Table) (x : State) (l : t.count ≤ 64) where
 
   try_as : (k : Rule) (y z : Choice) → y ≡ z
       → try_in k (set_of k (fitted t x here t.count)) t.count y
-      ≡ pick (ltb (first (fits k t x) t.count) t.count) (Fit k (first (fits k t x) t.count)) z
+      ≡ pick (ltb (first (fits k t x) t.count) t.count) (Some (k, (first (fits k t x) t.count))) z
   try_as k y z q =
-      ap₂ (λ i w. pick (ltb i t.count) (Fit k i) w)
+      ap₂ (λ i w. pick (ltb i t.count) (Some (k, i)) w)
       (ap (λ a. first (has_bit a) t.count) (set_is k t.count l) ∙ marked_first (fits k t x) t.count) q
 
   -- what is chosen from the sets is what the rules choose

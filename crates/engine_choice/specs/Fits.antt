@@ -1,5 +1,5 @@
 -- Of the code: for each rule the set of services that it fits, and the choice from those sets.
-use Rattle.std.specs.Prelude.{ℕ, ◌&&◌, List, [], ◌∷◌, ltb}
+use Rattle.std.specs.Prelude.{ℕ, ◌&&◌, List, [], ◌∷◌, ltb, Some, None}
 use Rattle.std.specs.Int.Bits.{bit_or}
 use Rattle.base.specs.Folds.{pick, fold, first}
 use Rattle.base.specs.Sets.{has_bit, single}
@@ -11,8 +11,7 @@ use Rattle.service.specs.declared.Table.{Table}
 use Rattle.service.specs.declared.State.{State}
 use Rattle.rules.specs.declared.Rule.{Rule}
 use Rattle.rules.specs.declared.Rule.TheVariants.{Lose, Abandon, Settle, Wake, Release, Begin, End, Expire}
-use Rattle.rules.specs.declared.Choice.{Choice}
-use Rattle.rules.specs.declared.Choice.TheVariants.{Quiet as NoRule, Fit}
+use Rattle.rules.specs.Choice.{Choice}
 use Rattle.engine_choice.specs.declared.standing.Standing.{Standing}
 use Rattle.engine_choice.specs.declared.standing.Which.{Which}
 use Rattle.engine_choice.specs.Fitting.{which_by}
@@ -45,11 +44,11 @@ fitted t x st n = fold (fitting t x st) no_fits n
 
 -- the rule k at the lowest of the set m below n, or z where there is none
 abbrev pub try_in : Rule → ℕ → ℕ → Choice → Choice
-try_in k m n z = pick (ltb (first (has_bit m) n) n) (Fit k (first (has_bit m) n)) z
+try_in k m n z = pick (ltb (first (has_bit m) n) n) (Some (k, (first (has_bit m) n))) z
 
 -- the rules of a list tried in turn, each on its set
 abbrev pub in_turn : List (Rule × ℕ) → ℕ → Choice
-in_turn [] n = NoRule
+in_turn [] n = None
 in_turn (p ∷ ps) n = try_in p.0 p.1 n (in_turn ps n)
 
 -- the rules with their sets, in paper 01's order

@@ -8,7 +8,7 @@ ghost use Rattle.std.specs.Prelude.{◌≡◌};
 ghost use Rattle.engine_choice.specs.Fits.{no_fits, added_in, fitted_in, choice_from};
 
 use base::{lowest, single_of};
-use rules::{Choice, Rule};
+use rules::Rule;
 use service::{Record, Settings};
 pub use standing::{Standing, noted};
 use standing::{Which, which_fit};
@@ -66,8 +66,8 @@ pub fn fit(f: Fits, now: u64, v: Settings, r: Record, st: Standing, s: usize) ->
     added(f, w, s)
 }
 
-// The rules are tried in paper 01's order, each on the lowest service that it fits.
-pub fn choose(f: Fits, n: usize) -> Choice
+// The first rule with any service that it fits, in paper 01's order, and the lowest such service.
+pub fn choose(f: Fits, n: usize) -> Option<(Rule, usize)>
     ensures { result ≡ choice_from f n }
 {
     let tries = [
@@ -83,8 +83,8 @@ pub fn choose(f: Fits, n: usize) -> Choice
     for (rule, set) in tries {
         let s = lowest(set, n);
         if s < n {
-            return Choice::Fit(rule, s);
+            return Some((rule, s));
         }
     }
-    Choice::Quiet
+    None
 }

@@ -1,8 +1,7 @@
 -- Of the code: the parts of a settled record: a record at rest, and one with a fall counted.
-use Rattle.std.specs.Prelude.{ℕ, Bool, false}
+use Rattle.std.specs.Prelude.{ℕ, Bool, false, None}
 use Rattle.service.specs.declared.Phase.TheVariants.{Down}
 use Rattle.service.specs.declared.Cause.TheVariants.{None as NoCause, Fell}
-use Rattle.std.specs.Prelude.{None}
 use Rattle.service.specs.declared.Settings.{Settings}
 use Rattle.service.specs.declared.Record.{Record}
 use Rattle.service.specs.Records.{moved, with_aside, with_count, with_killed, with_not_before, with_wanted, with_window}

@@ -18,7 +18,7 @@ use Rattle.rules.specs.Demand.{Mark, Moment, NoZeroTimeout, Set, began, deadline
 use Rattle.rules.specs.Dependencies.{hard}
 use Rattle.rules.specs.Events.{after_clock, after_end, after_start, after_stop, after_stop_all, brings, each, start_reaches, started_as, stopped}
 use Rattle.rules.specs.Rules.{act, hands, leaves}
-use Rattle.rules.specs.declared.Choice.TheVariants.{Fit}
+use Rattle.std.specs.Prelude.{Some}
 use Rattle.rules.specs.declared.Rule.{Rule}
 use Rattle.rules.proofs.Each.{each_below, each_clock}
 use Rattle.rules.proofs.Formed.{Sound, sound_clock, sound_end, sound_rule, sound_start, sound_stop, sound_stop_all}
@@ -147,17 +147,17 @@ module _ (t : Table) (ts : TableSound t) (x : State) (h : Sound t x) where
 
 module _ (t : Table) (ts : TableSound t) where
   rule_lawful : (x : State) → Sound t x → (k : Rule) (s : ℕ) → Fires t x k s
-      → Lawful t (moment (handed (hands k t x s) (kills_by (Fit k s) x)) x (with_record x s (leaves k t x s)))
+      → Lawful t (moment (handed (hands k t x s) (kills_by (Some (k, s)) x)) x (with_record x s (leaves k t x s)))
   rule_lawful x h k s f =
       let fit = f.lowest.passes in
       let l = f.lowest.bound in
-      one_lawful t ts x h s l (leaves k t x s) (handed (hands k t x s) (kills_by (Fit k s) x)) (sound_rule t ts x k s h f)
+      one_lawful t ts x h s l (leaves k t x s) (handed (hands k t x s) (kills_by (Some (k, s)) x)) (sound_rule t ts x k s h f)
       (λ e q. hands_on k t x s e q)
       (rule_comes t x s k fit)
       (rule_parts t x s k fit)
-      (rule_clear t x s k (kills_by (Fit k s) x) fit)
+      (rule_clear t x s k (kills_by (Some (k, s)) x) fit)
       record {
-        lives = λ v q. rule_lives t x s v q k (kills_by (Fit k s) x) (h.shapes s l) f;
+        lives = λ v q. rule_lives t x s v q k (kills_by (Some (k, s)) x) (h.shapes s l) f;
         kills = λ u q. rule_kills t x s u q k fit;
         times = λ nz q. leaves_timed t nz x s l q k fit;
         halts = λ _ q. leaves_halting t x s q k fit;

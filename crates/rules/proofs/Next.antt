@@ -15,8 +15,8 @@ use Rattle.service.specs.declared.Action.TheVariants.{Quiet}
 use Rattle.service.specs.declared.State.{State}
 use Rattle.service.specs.declared.Table.{Table}
 use Rattle.rules.specs.Rules.{act, act_on, chosen, chosen_from, fits, leaves, next_action}
-use Rattle.rules.specs.declared.Choice.{Choice}
-use Rattle.rules.specs.declared.Choice.TheVariants.{Fit, Quiet as NoRule}
+use Rattle.rules.specs.Choice.{Choice}
+use Rattle.std.specs.Prelude.{Some, None}
 use Rattle.rules.specs.declared.Rule.{Rule}
 use Rattle.rules.specs.declared.Rule.TheVariants.{Abandon, Begin, End, Expire, Lose, Release, Settle, Wake}
 
@@ -71,14 +71,14 @@ module _ (t : Table) (x : State) where
   Before m = (j : Rule) → place j < m → Nowhere j
 
   pub data Chosen : Choice → Type 0 where
-    no_rule : ((j : Rule) → Nowhere j) → Chosen NoRule
-    rule : (k : Rule) (s : ℕ) → Lowest (fits k t x) t.count s → Before (place k) → Chosen (Fit k s)
+    no_rule : ((j : Rule) → Nowhere j) → Chosen None
+    rule : (k : Rule) (s : ℕ) → Lowest (fits k t x) t.count s → Before (place k) → Chosen (Some (k, s))
 
   one : (k : Rule) (ks : List Rule) → Before (place k) → (Before (suc (place k)) → Chosen (chosen_from ks t x)) → Chosen (chosen_from (k ∷ ks) t x)
   unfolding chosen_from
   one k ks b later = go (sought (fits k t x) t.count)
     where
-      go : {i : ℕ} → Sought (fits k t x) t.count i → Chosen (pick (ltb i t.count) (Fit k i) (chosen_from ks t x))
+      go : {i : ℕ} → Sought (fits k t x) t.count i → Chosen (pick (ltb i t.count) (Some (k, i)) (chosen_from ks t x))
       go (found {i} h) = rw (lt-ltb i t.count h.bound) (rule k i h b)
       go (nowhere h) =
           rw (le-ltb t.count t.count (le_refl t.count))
@@ -104,12 +104,12 @@ module _ (t : Table) (x : State) where
   pub record Fires (k : Rule) (s : ℕ) : Type 0 where
     pub lowest : Lowest (fits k t x) t.count s
     pub before : Before (place k)
-    pub chooses : chosen t x ≡ Fit k s
+    pub chooses : chosen t x ≡ Some (k, s)
     pub does : next_action t x ≡ act k t x s
 
   pub record Stays : Type 0 where
     pub none : (j : Rule) → Nowhere j
-    pub chooses : chosen t x ≡ NoRule
+    pub chooses : chosen t x ≡ None
     pub does : next_action t x ≡ record { action = Quiet; state = x }
 
   pub next_either : Stays ⊎ ((k : Rule) × (s : ℕ) × Fires k s)

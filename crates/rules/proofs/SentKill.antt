@@ -17,7 +17,7 @@ use Rattle.service.proofs.Named.{is_down_lem, is_up_lem, is_waiting_lem}
 use Rattle.rules.specs.Demand.{Mark, Set, began, ended, handed, kills_by, passed, sent_by}
 use Rattle.rules.specs.Events.{ended_as}
 use Rattle.rules.specs.Rules.{expired_action, fits, hands, leaves}
-use Rattle.rules.specs.declared.Choice.TheVariants.{Fit}
+use Rattle.std.specs.Prelude.{Some}
 use Rattle.rules.specs.declared.Rule.{Rule}
 use Rattle.rules.specs.declared.Rule.TheVariants.{Abandon, Begin, End, Expire, Lose, Release, Settle, Wake}
 use Rattle.rules.proofs.Fitting.{abandon_fits, begin_fits, end_fits, expire_fits, release_fits, wake_fits}
@@ -49,7 +49,7 @@ module _ (t : Table) (x : State) (s : ℕ) (u : Set) (h : KilledAt u s (record_a
   unkilled : {A : Type 0} (p : Phase) → is_ending p ≡ false → (record_at x s).phase ≡ p → (record_at x s).killed ≡ true → A
   unkilled p e q d = absurd (not_both (rw q at (h d).0) e)
 
-  pub rule_kills : (k : Rule) → fits k t x s ≡ true → KilledAt (sent_by (handed (hands k t x s) (kills_by (Fit k s) x)) u) s (leaves k t x s)
+  pub rule_kills : (k : Rule) → fits k t x s ≡ true → KilledAt (sent_by (handed (hands k t x s) (kills_by (Some (k, s)) x)) u) s (leaves k t x s)
   unfolding hands leaves
   rule_kills Lose f = h
   rule_kills Abandon f = unkilled Waiting refl (is_waiting_lem _ ((abandon_fits t x s).0 f).waits)

@@ -1,9 +1,8 @@
 -- Trusted: Demand 3, one statement over every list of calls. What it rests on is listed at the end of this file.
-use Rattle.std.specs.Prelude.{ℕ, suc, ◌+◌, ◌*◌, ◌≤◌, ◌<◌, ◌≢◌, ◌≡◌, Bool, true, false, not, ◌&&◌, ◌||◌, List, [], ◌∷◌, ◌++◌, eqb, length, get_or}
+use Rattle.std.specs.Prelude.{ℕ, suc, ◌+◌, ◌*◌, ◌≤◌, ◌<◌, ◌≢◌, ◌≡◌, Bool, true, false, not, ◌&&◌, ◌||◌, List, [], ◌∷◌, ◌++◌, eqb, length, get_or, Some, None}
 use Rattle.base.specs.Folds.{listed}
 use Rattle.base.specs.Links.{Path}
 use Rattle.service.specs.declared.Phase.TheVariants.{Down}
-use Rattle.std.specs.Prelude.{Some}
 use Rattle.service.specs.declared.Action.{Action}
 use Rattle.service.specs.declared.Action.TheVariants.{Quiet, Moved, Launch, StopCommand, Signal}
 use Rattle.service.specs.declared.State.{State}
@@ -13,8 +12,7 @@ use Rattle.service.specs.Settings.{settings_at}
 use Rattle.service.specs.Records.{record_at, fresh_state, is_ending}
 use Rattle.service.specs.Numbers.{action_of}
 use Rattle.rules.specs.declared.Rule.TheVariants.{Lose, Abandon, Settle, Wake, Release, Begin, End, Expire}
-use Rattle.rules.specs.declared.Choice.{Choice}
-use Rattle.rules.specs.declared.Choice.TheVariants.{Quiet as NoRule, Fit}
+use Rattle.rules.specs.Choice.{Choice}
 use Rattle.rules.specs.Dependencies.{hard_links}
 use Rattle.rules.specs.WellFormed.{table_formed, formed}
 use Rattle.rules.specs.Rules.{chosen}
@@ -40,15 +38,15 @@ moment k x y = record { mark = k; before = x; after = y }
 
 -- "a deadline's KILL is rule 8's": decided by the rules' state before the action
 abbrev pub kills_by : Choice → State → Bool
-kills_by NoRule x = false
-kills_by (Fit Lose s) x = false
-kills_by (Fit Abandon s) x = false
-kills_by (Fit Settle s) x = false
-kills_by (Fit Wake s) x = false
-kills_by (Fit Release s) x = false
-kills_by (Fit Begin s) x = false
-kills_by (Fit End s) x = false
-kills_by (Fit Expire s) x = is_ending (record_at x s).phase
+kills_by None x = false
+kills_by (Some (Lose, s)) x = false
+kills_by (Some (Abandon, s)) x = false
+kills_by (Some (Settle, s)) x = false
+kills_by (Some (Wake, s)) x = false
+kills_by (Some (Release, s)) x = false
+kills_by (Some (Begin, s)) x = false
+kills_by (Some (End, s)) x = false
+kills_by (Some (Expire, s)) x = is_ending (record_at x s).phase
 
 unfoldable pub deadline_kill : Table → State → Bool
 deadline_kill t x = kills_by (chosen t x) x

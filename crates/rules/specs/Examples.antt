@@ -1,6 +1,6 @@
 -- Of the code: further cases computed over the definitions, in one table with one statement: the lone reader's falls, what a user's stop does to
 -- those above, the refusals in the order of checks, the query; and a run with its lent places.
-use Rattle.std.specs.Prelude.{ℕ, false, true, List, [], ◌++◌, ◌∷◌, ◌≡◌, refl}
+use Rattle.std.specs.Prelude.{ℕ, false, true, List, [], ◌++◌, ◌∷◌, ◌≡◌, refl, Some, None}
 use Rattle.base.specs.Folds.{every, first, some}
 use Rattle.base.specs.Links.{cyclic, reach}
 use Rattle.base.specs.Sets.{has_bit, within}
@@ -8,7 +8,6 @@ use Rattle.service.specs.Records.{fresh_state, record_at, with_record}
 use Rattle.service.specs.Numbers.{settings_from}
 use Rattle.service.specs.Settings.{process, settings_at}
 use Rattle.service.specs.declared.Action.TheVariants.{Launch, Moved, Quiet, Signal}
-use Rattle.std.specs.Prelude.{Some, None}
 use Rattle.service.specs.declared.Signal.TheVariants.{Term}
 use Rattle.service.specs.declared.State.{State}
 use Rattle.service.specs.declared.Table.{Table}

@@ -3,6 +3,7 @@ pub mod Dependencies
 pub mod WellFormed
 pub mod Settling
 pub mod Events
+pub mod Choice
 pub mod Rules
 pub mod Runs
 pub mod Calls

@@ -1,5 +1,5 @@
 -- Trusted: "Next action": rules 1 to 8. Each is three functions: whom it fits, the record it leaves, and what it hands out.
-use Rattle.std.specs.Prelude.{ℕ, ◌+◌, Bool, true, false, not, ◌&&◌, ◌||◌, List, [], ◌∷◌, leb, ltb, eqb}
+use Rattle.std.specs.Prelude.{ℕ, ◌+◌, Bool, true, false, not, ◌&&◌, ◌||◌, List, [], ◌∷◌, leb, ltb, eqb, Option, Some, None}
 use Rattle.base.specs.Folds.{pick, implies, some, every, first}
 use Rattle.service.specs.declared.Form.{Form}
 use Rattle.service.specs.declared.Form.TheVariants.{Bare, Passing, Direct, Delayed}
@@ -8,7 +8,6 @@ use Rattle.service.specs.declared.Signal.TheVariants.{None as NoSignal, Hup, Int
 use Rattle.service.specs.declared.Phase.{Phase}
 use Rattle.service.specs.declared.Phase.TheVariants.{Down, Waiting, Starting, Up, Ending}
 use Rattle.service.specs.declared.Cause.TheVariants.{User, Released, Fell, Failed}
-use Rattle.std.specs.Prelude.{Option, Some, None}
 use Rattle.service.specs.declared.Action.{Action}
 use Rattle.service.specs.declared.Action.TheVariants.{Quiet, Moved, Launch, StopCommand, Signal}
 use Rattle.service.specs.declared.Settings.{Settings}
@@ -20,8 +19,7 @@ use Rattle.service.specs.Records.{record_at, with_record, is_down, is_waiting, i
 use Rattle.service.specs.Records.{moved, with_aside, with_cause, with_killed, with_launch, with_live, with_phase, with_wanted}
 use Rattle.rules.specs.declared.Rule.{Rule}
 use Rattle.rules.specs.declared.Rule.TheVariants.{Lose, Abandon, Settle, Wake, Release, Begin, End, Expire}
-use Rattle.rules.specs.declared.Choice.{Choice}
-use Rattle.rules.specs.declared.Choice.TheVariants.{Quiet as NoRule, Fit}
+use Rattle.rules.specs.Choice.{Choice}
 use Rattle.rules.specs.Dependencies.{hard, strong, soft, depends, serving, closing, barred, blocked, needed}
 use Rattle.rules.specs.Settling.{settled}
 
@@ -192,10 +190,10 @@ rules = Lose ∷ Abandon ∷ Settle ∷ Wake ∷ Release ∷ Begin ∷ End ∷ E
 
 -- "the first rule below with any service it fits, lowest service first"
 unfoldable pub chosen_from : List Rule → Table → State → Choice
-chosen_from [] t x = NoRule
+chosen_from [] t x = None
 chosen_from (k ∷ ks) t x =
     let later = chosen_from ks t x in
-    pick (ltb (first (fits k t x) t.count) t.count) (Fit k (first (fits k t x) t.count)) later
+    pick (ltb (first (fits k t x) t.count) t.count) (Some (k, (first (fits k t x) t.count))) later
 
 unfoldable pub chosen : Table → State → Choice
 chosen t x = chosen_from rules t x
@@ -205,8 +203,8 @@ act k t x s = record { action = hands k t x s; state = with_record x s (leaves k
 
 -- "Quiet" where no rule fits
 unfoldable pub act_on : Choice → Table → State → Step
-act_on NoRule t x = record { action = Quiet; state = x }
-act_on (Fit k s) t x = act k t x s
+act_on None t x = record { action = Quiet; state = x }
+act_on (Some (k, s)) t x = act k t x s
 
 unfoldable pub next_action : Table → State → Step
 next_action t x = act_on (chosen t x) t x

@@ -1,7 +1,6 @@
 -- Trusted: a run to quiet, and the query.
-use Rattle.std.specs.Prelude.{ℕ, ◌*◌, List, leb, ltb, set}
+use Rattle.std.specs.Prelude.{ℕ, ◌*◌, List, leb, ltb, set, Option, Some, None}
 use Rattle.base.specs.Folds.{pick, fold, first}
-use Rattle.std.specs.Prelude.{Option, Some, None}
 use Rattle.service.specs.declared.Action.{Action}
 use Rattle.service.specs.declared.Record.{Record}
 use Rattle.service.specs.declared.State.{State}

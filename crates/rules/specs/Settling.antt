@@ -1,10 +1,9 @@
 -- Trusted: "Settle": the record of a service that has ended, by its cause, with the restart window, limit and delay.
-use Rattle.std.specs.Prelude.{ℕ, suc, ◌+◌, ◌-◌, Bool, true, false, not, ◌&&◌, ◌||◌, leb, eqb}
+use Rattle.std.specs.Prelude.{ℕ, suc, ◌+◌, ◌-◌, Bool, true, false, not, ◌&&◌, ◌||◌, leb, eqb, None}
 use Rattle.base.specs.Folds.{pick}
 use Rattle.service.specs.declared.Phase.TheVariants.{Down}
 use Rattle.service.specs.declared.Cause.{Cause}
 use Rattle.service.specs.declared.Cause.TheVariants.{None as NoCause, User, Released, Fell, Failed}
-use Rattle.std.specs.Prelude.{None}
 use Rattle.service.specs.declared.Settings.{Settings}
 use Rattle.service.specs.declared.Record.{Record}
 use Rattle.service.specs.Records.{moved, with_aside, with_count, with_killed, with_not_before, with_wanted, with_window}

@@ -1,5 +1,5 @@
 -- Trusted: List 24: when a table and a state are well formed. Records past the last service are not read.
-use Rattle.std.specs.Prelude.{ℕ, Bool, true, not, ◌&&◌, leb}
+use Rattle.std.specs.Prelude.{ℕ, Bool, true, not, ◌&&◌, leb, Option, Some, None}
 use Rattle.base.specs.Folds.{implies, every}
 use Rattle.base.specs.Sets.{within}
 use Rattle.base.specs.Links.{cyclic}
@@ -7,7 +7,6 @@ use Rattle.service.specs.declared.Form.{Form}
 use Rattle.service.specs.declared.Phase.{Phase}
 use Rattle.service.specs.declared.Phase.TheVariants.{Down, Waiting, Starting, Up, Ending}
 use Rattle.service.specs.declared.Cause.{Cause}
-use Rattle.std.specs.Prelude.{Option, Some, None}
 use Rattle.service.specs.declared.Settings.{Settings}
 use Rattle.service.specs.declared.Record.{Record}
 use Rattle.service.specs.declared.State.{State}

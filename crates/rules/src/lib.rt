@@ -13,11 +13,3 @@ pub enum Rule {
     End,
     Expire,
 }
-
-// The first rule with any service that it fits, and the lowest such service. An enum of its own: the definitions of demand 3 (act_on, kills_by)
-// go by its cases, and a pair in an Option names neither rule nor service.
-#[derive(Clone, Copy)]
-pub enum Choice {
-    Quiet,
-    Fit(Rule, usize),
-}

@@ -46,30 +46,30 @@ returns-in_default c = search turn_quiet
 
 pub offset_bounds-t-s : goal.offset_bounds-t-s
 offset_bounds-t-s c =
-    let l = turn_inside c.loop-k.invariant c.requires.1 c.loop-j.invariant c.loop-j-test.false c.choose-c.ensures c.in-Fit.is in
+    let l = turn_inside c.loop-k.invariant c.requires.1 c.loop-j.invariant c.loop-j-test.false c.choose.ensures c.in-Some.is in
     search rules
 
 pub bounds-t-s : goal.bounds-t-s
 bounds-t-s c =
-    turn_inside c.loop-k.invariant c.requires.1 c.loop-j.invariant c.loop-j-test.false c.choose-c.ensures c.in-Fit.is
+    turn_inside c.loop-k.invariant c.requires.1 c.loop-j.invariant c.loop-j-test.false c.choose.ensures c.in-Some.is
 
 pub offset_bounds-y-s : goal.offset_bounds-y-s
 offset_bounds-y-s c =
-    let l = turn_inside c.loop-k.invariant c.requires.1 c.loop-j.invariant c.loop-j-test.false c.choose-c.ensures c.in-Fit.is in
+    let l = turn_inside c.loop-k.invariant c.requires.1 c.loop-j.invariant c.loop-j-test.false c.choose.ensures c.in-Some.is in
     search rules
 
 pub bounds-y-s : goal.bounds-y-s
 bounds-y-s c =
-    turn_inside c.loop-k.invariant c.requires.1 c.loop-j.invariant c.loop-j-test.false c.choose-c.ensures c.in-Fit.is
+    turn_inside c.loop-k.invariant c.requires.1 c.loop-j.invariant c.loop-j-test.false c.choose.ensures c.in-Some.is
 
 pub offset_bounds-y-s-in-loop-k : goal.offset_bounds-y-s-in-loop-k
 offset_bounds-y-s-in-loop-k c =
-    let l = turn_inside c.loop-k.invariant c.requires.1 c.loop-j.invariant c.loop-j-test.false c.choose-c.ensures c.in-Fit.is in
+    let l = turn_inside c.loop-k.invariant c.requires.1 c.loop-j.invariant c.loop-j-test.false c.choose.ensures c.in-Some.is in
     search rules
 
 pub bounds-y-s-in-loop-k : goal.bounds-y-s-in-loop-k
 bounds-y-s-in-loop-k c =
-    turn_inside c.loop-k.invariant c.requires.1 c.loop-j.invariant c.loop-j-test.false c.choose-c.ensures c.in-Fit.is
+    turn_inside c.loop-k.invariant c.requires.1 c.loop-j.invariant c.loop-j-test.false c.choose.ensures c.in-Some.is
 
 pub write_action-requires : goal.write_action-requires
 write_action-requires c = running_room c.loop-k.invariant c.requires.2 c.loop-k-test.true
@@ -79,9 +79,9 @@ unfolding record_at with_record
 loop-k-preserved c =
     -- the table has its places, so that what is read of one of them is the settings there
     let places : length c.args.t.services ≡ max_services = search (rules, length_mapped) in
-    let inside = turn_inside c.loop-k.invariant c.requires.1 c.loop-j.invariant c.loop-j-test.false c.choose-c.ensures c.in-Fit.is in
+    let inside = turn_inside c.loop-k.invariant c.requires.1 c.loop-j.invariant c.loop-j-test.false c.choose.ensures c.in-Some.is in
     turn_on c.loop-k.invariant c.requires.1 c.loop-j.invariant c.loop-j-test.false
-    c.choose-c.ensures c.loop-k-test.true c.in-Fit.is
+    c.choose.ensures c.loop-k-test.true c.in-Some.is
     (settings_read c.args.t _ _ places inside)
     c.overlaps-user.ensures c.leave-q.ensures c.hand_out-last.ensures
     c.write_action.ensures.services_after c.write_action.ensures.actions_after
