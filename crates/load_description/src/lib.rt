@@ -1,11 +1,11 @@
 // What one description holds: its settings and the dependencies that it names, and what a line with a good value adds to them.
 #![tactic(auto)]
 
-ghost use Rattle.std.specs.Prelude.{◌≡◌, ◌≤◌};
+ghost use Rattle.std.specs.Prelude.{◌≡◌, ℕ, ◌≤◌, List, take};
 ghost use Rattle.load_text.specs.Lines.{fault};
 ghost use Rattle.load_text.specs.declared.Wrong.TheVariants.{OutsideRule};
 ghost use Rattle.load_value.specs.Stores.{Puts};
-ghost use Rattle.load_value.specs.Values.{is_word};
+ghost use Rattle.load_value.specs.Values.{is_word, word_of, word_room};
 ghost use Rattle.load_description.specs.Settings.{blank, value_at, word_at, max_dependencies, taken_of, is_dependency, known};
 ghost use Rattle.load_description.specs.Lines.{command_read, dependency_read, word_read, tokens_read};
 ghost use Rattle.load_description.specs.Texts.{needs_command, completion};
@@ -14,6 +14,7 @@ use load_text::{Fault, Wrong, line_end, part, same_bytes};
 use load_value::{LONGEST_WORD, Sizes, WORD_ROOM, write_word};
 use load_word::{Command, Link, Property, is_name, read_kind, read_setting};
 use service::{Kind, Settings};
+use std::marker::Model;
 
 // How many dependencies a service may have.
 pub const MAX_DEPENDENCIES: usize = 16;
@@ -61,6 +62,46 @@ pub struct Start {
     pub seen: usize,
 }
 
+// The word that a value is; of one that is too long for a word, as much as there is room for.
+#[derive(Drop)]
+pub struct Word {
+    buffer: [u8; WORD_ROOM],
+    length: usize,
+}
+
+impl Model for Word {
+    ghost Value = { List ℕ };
+
+    ghost view = { λ w. take w.length w.buffer };
+
+    ghost invariant = { λ w. w.length ≤ word_room };
+}
+
+impl Word {
+    // The word that a value is.
+    fn of(value: &[u8]) -> Word
+        ensures { result ≡ word_of value.now }
+    {
+        let mut buffer = [0u8; WORD_ROOM];
+        let length = write_word(value, &mut buffer);
+        Word { buffer, length }
+    }
+
+    // The word whose value begins at an offset.
+    #[tactic(auto, unfolding(crate::specs::Settings::word_at))]
+    pub fn at(text: &[u8], at: usize) -> Word
+        ensures { result ≡ word_at text.now at }
+    {
+        Word::of(value_at(text, at))
+    }
+
+    pub fn bytes(&self) -> &[u8]
+        ensures { result.now ≡ self.now }
+    {
+        &self.buffer[..self.length]
+    }
+}
+
 impl Start {
     // A value outside its property's rule.
     fn outside(self) -> Fault
@@ -78,12 +119,7 @@ impl Dependency {
     fn is_on(self, text: &[u8], link: Link, word: &[u8]) -> bool
         ensures { result ≡ is_dependency text.now self link word.now }
     {
-        if self.link == link {
-            let mut buffer = [0u8; WORD_ROOM];
-            let n = write_word_at(text, self.at, &mut buffer);
-            return same_bytes(part(&buffer, 0, n), word);
-        }
-        false
+        self.link == link && same_bytes(Word::at(text, self.at).bytes(), word)
     }
 }
 
@@ -180,9 +216,8 @@ impl Description {
             return read_command(c, start, sizes);
         }
         if is_word(sizes) {
-            let mut buffer = [0u8; WORD_ROOM];
-            let n = write_word(value, &mut buffer);
-            return self.read_word(text, p, start, part(&buffer, 0, n));
+            let word = Word::of(value);
+            return self.read_word(text, p, start, word.bytes());
         }
         Err(start.outside())
     }
