@@ -4,7 +4,6 @@
 ghost use Rattle.std.specs.Prelude.{◌≡◌, ℕ, ◌≤◌, List, take};
 ghost use Rattle.load_text.specs.Lines.{fault};
 ghost use Rattle.load_text.specs.declared.Wrong.TheVariants.{OutsideRule};
-ghost use Rattle.load_value.specs.Stores.{Puts};
 ghost use Rattle.load_value.specs.Values.{is_word, word_of, word_room};
 ghost use Rattle.load_description.specs.Settings.{blank, value_at, word_at, max_dependencies, taken_of, is_dependency, known};
 ghost use Rattle.load_description.specs.Lines.{command_read, dependency_read, word_read, tokens_read};
@@ -107,10 +106,7 @@ impl Start {
     fn outside(self) -> Fault
         ensures { result ≡ fault OutsideRule self.seen }
     {
-        Fault {
-            wrong: Wrong::OutsideRule,
-            at: self.seen,
-        }
+        Wrong::OutsideRule.at(self.seen)
     }
 }
 
@@ -168,10 +164,7 @@ impl Description {
         if self.count < MAX_DEPENDENCIES {
             return Ok(Effect::Dependency(link, start.at));
         }
-        Err(Fault {
-            wrong: Wrong::TooManyDependencies,
-            at: start.seen,
-        })
+        Err(Wrong::TooManyDependencies.at(start.seen))
     }
 
     // A line of a property that takes a word.
@@ -228,16 +221,10 @@ impl Description {
         ensures { result ≡ completion self.now }
     {
         if !self.typed {
-            return Err(Fault {
-                wrong: Wrong::NoType,
-                at: 0,
-            });
+            return Err(Wrong::NoType.at(0));
         }
         if needs_command(self.settings.kind) && self.kept.command.is_none() {
-            return Err(Fault {
-                wrong: Wrong::NoCommand,
-                at: 0,
-            });
+            return Err(Wrong::NoCommand.at(0));
         }
         Ok(())
     }
@@ -249,14 +236,6 @@ pub fn value_at(text: &[u8], at: usize) -> &[u8]
     ensures { result.now ≡ value_at text.now at }
 {
     part(text, at, line_end(text, at))
-}
-
-// Writes the word that begins at an offset to buffer, and returns its length.
-#[tactic(auto, unfolding(crate::specs::Settings::word_at))]
-pub fn write_word_at(text: &[u8], at: usize, buffer: &mut [u8]) -> usize
-    ensures { Puts buffer.old 0 (word_at text.now at) buffer.new result }
-{
-    write_word(value_at(text, at), buffer)
 }
 
 // How many places of the dependencies are taken.

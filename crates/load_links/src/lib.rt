@@ -15,10 +15,9 @@ ghost use Rattle.load_links.specs.Links.{with_link, links_in, settings_of, servi
 
 use base::has_bit;
 use links::{has_cycle, reach_of};
-use load_description::{Description, MAX_DEPENDENCIES, write_word_at};
+use load_description::{Description, MAX_DEPENDENCIES, Word};
 use load_lent::{Lent, Refused};
-use load_text::{Fault, Wrong, part};
-use load_value::WORD_ROOM;
+use load_text::{Fault, Wrong};
 use load_word::Link;
 use service::{MAX_SERVICES, Settings, all_links};
 
@@ -76,9 +75,7 @@ impl<'a, 'e> Set<'a, 'e> {
 fn find_word(lent: Lent, text: &[u8], at: usize) -> Option<usize>
     ensures { let n = service_count lent.entry.ends.now in result ≡ found n (find (name_at lent.entry.bytes.now lent.entry.ends.now) n (word_at text.now at)) }
 {
-    let mut buffer = [0u8; WORD_ROOM];
-    let m = write_word_at(text, at, &mut buffer);
-    lent.find(lent.count(), part(&buffer, 0, m))
+    lent.find(lent.count(), Word::at(text, at).bytes())
 }
 
 // The dependencies of one description. One that says that it has more than there are places is not looked through.

@@ -53,10 +53,7 @@ fn told_from<T>(from: usize, read: Result<T, Fault>) -> Result<T, Fault>
     requires { IfErr read (λ f. from + f.at < 18446744073709551616) }
     ensures { MatchResult read (λ x. result ≡ Ok x) (λ f. result ≡ Err (fault f.wrong (from + f.at))) }
 {
-    read.map_err(|f| Fault {
-        at: from + f.at,
-        ..f
-    })
+    read.map_err(|f| f.wrong.at(from + f.at))
 }
 
 // A line by its property; the line begins at the offset `from`.
@@ -73,10 +70,7 @@ fn read_property(
     ensures { result ≡ property_read text.now d.now from line.now s p }
 {
     if matches!(p, Property::Unknown) {
-        return Err(Fault {
-            wrong: Wrong::UnknownProperty,
-            at: from + s.from,
-        });
+        return Err(Wrong::UnknownProperty.at(from + s.from));
     }
     let start = Start {
         at: from + s.value,
