@@ -109,7 +109,7 @@ class Format:
     are read of a scenario."""
 
     def __init__(self, root=ROOT):
-        self.forms = [form.split(' ') for form in found(root, LINES, r'const FORMS: \[u8; \d+\] = \*b"([^"]*)"').split('\n')]
+        self.forms = [form.split(' ') for form in found(root, LINES, r'const FORMS: [^=]*= \*?b"([^"]*)"').split('\n')]
         self.verbs = list(dict.fromkeys(form[0] for form in self.forms)) + ['service']
         facts = Facts(root)
         self.times = ['clock'] + RECORD_TIMES + [name for name, rule in facts.rules.items() if rule == 'time']
