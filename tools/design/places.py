@@ -141,7 +141,9 @@ class File:
         self.types = []
         for m in re.finditer(r"(?m)^[ \t]*(?:pub(?:\([^)]*\))? )?(struct|enum) (\w+)[^;{(]*\{", self.bare):
             inside = self.bare[m.end() : closing(self.bare, m.end() - 1) - 1]
-            self.types.append((m.group(1), m.group(2), m.start(2), [p for p in parts(inside, ",")]))
+            # What is for proofs alone, a field or an invariant, is no part of it.
+            inside = re.sub(r"#\[[^\]]*\]", "", re.sub(r"\b(?:pub )?(?:ghost|invariant)\b[^,;{}]*(?:\{[^{}]*\})?[,;]?", "", inside))
+            self.types.append((m.group(1), m.group(2), m.start(2), parts(inside, ",")))
 
     def line(self, at):
         return self.text.count("\n", 0, at) + 1
@@ -175,6 +177,12 @@ class Places:
             k -= 1
         return next((one_line(c, 100) for c in above if KEPT.match(c)), "")
 
+    @staticmethod
+    def fields(inside):
+        """The fields of a struct, as (name, type)."""
+        found = [re.match(r"(?:pub(?:\([^)]*\))? )?(\w+)\s*:\s*(.*)", f, re.S) for f in inside]
+        return [m.groups() for m in found if m]
+
     # ---- 1
 
     def enums(self):
@@ -195,7 +203,7 @@ class Places:
                 self.add(1, file, at, "an enum with a case for none or a fault")
         for file in self.files:
             for kind, name, at, inside in file.types:
-                fields = dict(re.match(r"(?:pub(?:\([^)]*\))? )?(\w+)\s*:\s*(.*)", f, re.S).groups() for f in inside) if kind == "struct" else {}
+                fields = dict(self.fields(inside)) if kind == "struct" else {}
                 flags = [f for f in fields if f in FLAGS]
                 if flags and len(fields) > 1:
                     self.add(1, file, at, f"a struct with `{flags[0]}` beside values")
@@ -453,7 +461,7 @@ class Places:
             for kind, name, at, inside in file.types:
                 if kind != "struct":
                     continue
-                fields = [re.match(r"(?:pub(?:\([^)]*\))? )?(\w+)\s*:\s*(.*)", f, re.S).groups() for f in inside]
+                fields = self.fields(inside)
                 arrays = [(n, t) for n, t in fields if re.match(r"&?(?:mut )?\[", t)]
                 numbers = [n for n, t in fields if re.fullmatch(NUMBER, t)]
                 if arrays and COUNTS & set(numbers):
