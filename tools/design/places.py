@@ -27,10 +27,11 @@ POINTS = {
     8: "answers that repeat, or that the check finds",
 }
 
-# How a comment says why a place stays: its first words name the form, up to a colon.
-KEPT = re.compile(r"//+ (?:An?|Own|Two|Three|No|Not|By hand|Kept|Stays|One by one)\b[^:.]*?\b(?:while|loop|index|match|switch|number|numbers|flag|answer|struct|enum|types?|"
-                  r"count|cast|cop(?:y|ies)|constants?|twins?|array|arrays|buffer|slices?|places?|search|order|minimum|fold|test|tests|name|names|functions?|parameters?|fact|"
-                  r"hand|cases?|chain|form|forms)s?: ")
+# How a comment says why a place stays: its first words name the form, up to a colon; or it has the words of such a reason.
+FORM = (r"while|loop|index|match|switch|numbers?|flags?|answers?|structs?|enums?|types?|counts?|casts?|cop(?:y|ies)|constants?|twins?|arrays?|buffers?|slices?|places?|"
+        r"search|order|minimum|fold|tests?|names?|functions?|method[^:]*|parameters?|facts?|hand|cases?|chain|forms?|other")
+KEPT = re.compile(rf"//+ (?:An?|Own|Two|Three|No|By)(?: [\w'`]+){{0,4}}? (?:{FORM}): |"
+                  r"//.*(?:would cost|costs? a copy|allocates nothing|no plainer|is plainer|slower|faster|did not (?:prove|close)|does not (?:prove|close)|guarantee's|theorem)")
 
 # The names of a case or a field that say whether there is a value.
 NONE = {"None", "Nothing", "Unknown", "Off", "Bad", "Refused", "Malformed", "Unreadable", "Invalid", "Missing", "Absent", "Failed", "Error"}
