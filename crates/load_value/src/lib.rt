@@ -1,7 +1,7 @@
 // The value of a line: what quotes, backslashes, white space and comments make of its bytes.
 #![tactic(auto)]
 
-ghost use Rattle.std.specs.Prelude.{◌≡◌, ◌-◌, ◌<◌, ◌≤◌};
+ghost use Rattle.std.specs.Prelude.{◌≡◌, ◌<◌, ◌≤◌};
 ghost use Rattle.load_value.specs.Steps.{bare_step, quote_step, step_of};
 ghost use Rattle.load_value.specs.Stores.{Put, Puts};
 ghost use Rattle.base.specs.Folds.{pick};
@@ -53,34 +53,28 @@ pub struct Sizes {
 }
 
 // A byte outside quotes that is neither escaped nor a backslash nor a quote.
+#[tactic(auto, unfolding(crate::specs::Steps::bare_step))]
 fn bare_step(m: Mode, b: u8) -> Step
     ensures { result ≡ bare_step m b }
 {
-    let white = is_white(b);
-    let hash = b == b'#';
-    if white {
-        let between = Mode::BETWEEN;
+    if is_white(b) {
         if m.token {
-            return Step::Close(between);
+            return Step::Close(Mode::BETWEEN);
         }
-        return Step::Skip(between);
+        return Step::Skip(Mode::BETWEEN);
     }
-    if hash {
+    if b == b'#' {
         if m.token {
             return Step::Malformed;
         }
         return Step::Skip(Mode {
-            escaped: false,
-            quoted: false,
-            token: false,
             comment: true,
+            ..Mode::BETWEEN
         });
     }
     Step::Keep(Mode {
-        escaped: false,
-        quoted: false,
         token: true,
-        comment: false,
+        ..Mode::BETWEEN
     })
 }
 
@@ -89,10 +83,9 @@ fn quote_step(m: Mode) -> Step
 {
     // A closing quote leaves the token open.
     let stretch = Mode {
-        escaped: false,
         quoted: !m.quoted,
         token: true,
-        comment: false,
+        ..Mode::BETWEEN
     };
     if m.quoted {
         return Step::Skip(stretch);
@@ -101,31 +94,28 @@ fn quote_step(m: Mode) -> Step
 }
 
 // What a byte of a value does.
+#[tactic(auto, unfolding(crate::specs::Steps::step_of))]
 fn step_at(m: Mode, b: u8) -> Step
     ensures { result ≡ step_of m b }
 {
-    let slash = b == b'\\';
-    let quote = b == b'"';
     if m.comment {
         return Step::Skip(m);
     }
     if m.escaped {
         return Step::Keep(Mode {
             escaped: false,
-            quoted: m.quoted,
             token: true,
-            comment: false,
+            ..m
         });
     }
-    if slash {
+    if b == b'\\' {
         return Step::Skip(Mode {
             escaped: true,
-            quoted: m.quoted,
             token: true,
-            comment: false,
+            ..m
         });
     }
-    if quote {
+    if b == b'"' {
         return quote_step(m);
     }
     if m.quoted {
@@ -134,45 +124,40 @@ fn step_at(m: Mode, b: u8) -> Step
     bare_step(m, b)
 }
 
-// A byte kept more.
-fn with_byte(z: Sizes) -> Sizes
-    requires { (z.room < 9223372036854775808) × (z.first ≤ z.room) }
-    ensures { result ≡ counted z (kept 0) }
-{
-    let room = z.room + 1;
-    let longer = z.first + 1;
-    let leading = z.tokens == 0;
-    if leading {
-        return Sizes {
-            tokens: z.tokens,
-            room,
-            first: longer,
-        };
-    }
-    Sizes {
-        tokens: z.tokens,
-        room,
-        first: z.first,
-    }
-}
+impl Sizes {
+    const NONE: Sizes = Sizes {
+        tokens: 0,
+        room: 0,
+        first: 0,
+    };
 
-// A token's end more.
-fn with_end(z: Sizes) -> Sizes
-    requires { (z.room < 9223372036854775808) × (z.tokens ≤ z.room) }
-    ensures { result ≡ counted z close }
-{
-    Sizes {
-        tokens: z.tokens + 1,
-        room: z.room + 1,
-        first: z.first,
+    // A byte kept more: one of the first token counts for its length.
+    fn with_byte(self) -> Sizes
+        requires { (self.room < 9223372036854775808) × (self.first ≤ self.room) }
+        ensures { result ≡ counted self (kept 0) }
+    {
+        let room = self.room + 1;
+        if self.tokens == 0 {
+            return Sizes {
+                room,
+                first: self.first + 1,
+                ..self
+            };
+        }
+        Sizes { room, ..self }
     }
-}
 
-// The number before, or 0.
-fn before(i: usize) -> usize
-    ensures { result ≡ i - 1 }
-{
-    if 0 < i { i - 1 } else { 0 }
+    // A token's end more.
+    fn with_end(self) -> Sizes
+        requires { (self.room < 9223372036854775808) × (self.tokens ≤ self.room) }
+        ensures { result ≡ counted self close }
+    {
+        Sizes {
+            tokens: self.tokens + 1,
+            room: self.room + 1,
+            ..self
+        }
+    }
 }
 
 // What a value is that ends in a mode, at a place, with its last quote and its sizes so far. A last backslash comes before an open quote.
@@ -181,64 +166,41 @@ fn ended(m: Mode, quote: usize, end: usize, z: Sizes) -> Result<Sizes, Fault>
     ensures { result ≡ scanned (ended m quote end) (pick m.token (counted z close) z) }
 {
     if m.escaped {
-        return Err(Fault {
-            wrong: Wrong::LastBackslash,
-            at: before(end),
-        });
+        return Err(Wrong::LastBackslash.at(end.saturating_sub(1)));
     }
     if m.quoted {
-        return Err(Fault {
-            wrong: Wrong::OpenQuote,
-            at: quote,
-        });
+        return Err(Wrong::OpenQuote.at(quote));
     }
-    if m.token {
-        return Ok(with_end(z));
-    }
-    Ok(z)
+    Ok(if m.token { z.with_end() } else { z })
 }
 
 // What a value is: the sizes of its tokens, or its first fault.
+#[tactic(auto, using(crate::proofs::Loops::told_none, crate::proofs::Loops::told_skip, crate::proofs::Loops::told_quote, crate::proofs::Loops::told_keep, crate::proofs::Loops::told_close, crate::proofs::Loops::told_bad, crate::proofs::Loops::told_end))]
 pub fn scan_value(s: &[u8]) -> Result<Sizes, Fault>
     ensures { result ≡ scan_of s.now }
 {
     let mut m = Mode::BETWEEN;
-    let mut z = Sizes {
-        tokens: 0,
-        room: 0,
-        first: 0,
-    };
+    let mut z = Sizes::NONE;
     let mut quote: usize = 0;
-    let mut i: usize = 0;
-    while i < s.len() {
-        let b = s[i];
-        let after = i + 1;
+    for (i, &b) in s.iter().enumerate() {
         match step_at(m, b) {
-            Step::Skip(k) => {
-                m = k;
-            }
+            Step::Skip(k) => m = k,
             Step::Quote(k) => {
-                m = k;
                 quote = i;
+                m = k;
             }
             Step::Keep(k) => {
-                z = with_byte(z);
+                z = z.with_byte();
                 m = k;
             }
             Step::Close(k) => {
-                z = with_end(z);
+                z = z.with_end();
                 m = k;
             }
-            Step::Malformed => {
-                return Err(Fault {
-                    wrong: Wrong::Malformed,
-                    at: i,
-                });
-            }
+            Step::Malformed => return Err(Wrong::Malformed.at(i)),
         }
-        i = after;
     }
-    ended(m, quote, i, z)
+    ended(m, quote, s.len(), z)
 }
 
 // Stores a byte where there is room, and returns the next place.
@@ -246,31 +208,23 @@ fn put(buffer: &mut [u8], at: usize, b: u8) -> usize
     requires { at < 9223372036854775808 }
     ensures { Put buffer.old at b buffer.new result }
 {
-    let next = at + 1;
     if at < buffer.len() {
         buffer[at] = b;
     }
-    next
+    at + 1
 }
 
 // Writes a value's tokens from the start of buffer, each followed by a zero byte, and returns the place past them. What does
 // not fit is dropped.
+#[tactic(auto, using(crate::proofs::Loops::written_none, crate::proofs::Loops::written_skip, crate::proofs::Loops::written_quote, crate::proofs::Loops::written_keep, crate::proofs::Loops::written_close, crate::proofs::Loops::written_bad, crate::proofs::Loops::written_closed, crate::proofs::Loops::written_all))]
 pub fn write_value(s: &[u8], buffer: &mut [u8]) -> usize
     ensures { Puts buffer.old 0 (written s.now) buffer.new result }
 {
     let mut m = Mode::BETWEEN;
     let mut o: usize = 0;
-    let mut i: usize = 0;
-    while i < s.len() {
-        let b = s[i];
-        let after = i + 1;
+    for &b in s {
         match step_at(m, b) {
-            Step::Skip(k) => {
-                m = k;
-            }
-            Step::Quote(k) => {
-                m = k;
-            }
+            Step::Skip(k) | Step::Quote(k) => m = k,
             Step::Keep(k) => {
                 o = put(buffer, o, b);
                 m = k;
@@ -279,11 +233,8 @@ pub fn write_value(s: &[u8], buffer: &mut [u8]) -> usize
                 o = put(buffer, o, 0);
                 m = k;
             }
-            Step::Malformed => {
-                return o;
-            }
+            Step::Malformed => return o,
         }
-        i = after;
     }
     if m.token {
         return put(buffer, o, 0);
@@ -292,22 +243,15 @@ pub fn write_value(s: &[u8], buffer: &mut [u8]) -> usize
 }
 
 // Writes the word that a value begins with from the start of buffer, and returns its length. What does not fit is dropped.
+#[tactic(auto, using(crate::proofs::Loops::worded_none, crate::proofs::Loops::worded_skip, crate::proofs::Loops::worded_quote, crate::proofs::Loops::worded_keep, crate::proofs::Loops::worded_full, crate::proofs::Loops::worded_close, crate::proofs::Loops::worded_bad, crate::proofs::Loops::worded_end))]
 pub fn write_word(s: &[u8], buffer: &mut [u8]) -> usize
     ensures { Puts buffer.old 0 (word_of s.now) buffer.new result }
 {
     let mut m = Mode::BETWEEN;
     let mut o: usize = 0;
-    let mut i: usize = 0;
-    while i < s.len() {
-        let b = s[i];
-        let after = i + 1;
+    for &b in s {
         match step_at(m, b) {
-            Step::Skip(k) => {
-                m = k;
-            }
-            Step::Quote(k) => {
-                m = k;
-            }
+            Step::Skip(k) | Step::Quote(k) => m = k,
             Step::Keep(k) => {
                 if LONGEST_WORD < o {
                     return o;
@@ -315,14 +259,8 @@ pub fn write_word(s: &[u8], buffer: &mut [u8]) -> usize
                 o = put(buffer, o, b);
                 m = k;
             }
-            Step::Close(k) => {
-                return o;
-            }
-            Step::Malformed => {
-                return o;
-            }
+            Step::Close(_) | Step::Malformed => return o,
         }
-        i = after;
     }
     o
 }
