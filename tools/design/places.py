@@ -36,7 +36,8 @@ KEPT = re.compile(rf"//+ (?:An?|Own|Two|Three|No|By)(?: [\w'`]+){{0,4}}? (?:{FOR
 # The names of a case or a field that say whether there is a value.
 NONE = {"None", "Nothing", "Unknown", "Off", "Bad", "Refused", "Malformed", "Unreadable", "Invalid", "Missing", "Absent", "Failed", "Error"}
 FAULTS = NONE - {"None", "Nothing", "Failed"}
-FLAGS = {"good", "timed", "typed", "quiet", "loaded", "found", "point", "valid", "answer", "refusal", "number", "verdict", "status"}
+FLAGS = {**dict.fromkeys(("good", "timed", "typed", "quiet", "loaded", "found", "point", "valid"), "bool"), **dict.fromkeys(("refusal", "number"), r"u\d+|usize"),
+         **dict.fromkeys(("answer", "verdict", "status"), ".*")}
 COUNTS = {"n", "count", "len", "length", "depth", "used", "begun", "size"}
 NUMBER = r"(?:u8|u16|u32|u64|usize)"
 
@@ -205,7 +206,7 @@ class Places:
         for file in self.files:
             for kind, name, at, inside in file.types:
                 fields = dict(self.fields(inside)) if kind == "struct" else {}
-                flags = [f for f in fields if f in FLAGS]
+                flags = [f for f, t in fields.items() if re.fullmatch(FLAGS.get(f, "-"), t, re.S)]
                 if flags and len(fields) > 1:
                     self.add(1, file, at, f"a struct with `{flags[0]}` beside values")
             self.kinds_as_numbers(file)
