@@ -10,38 +10,33 @@ use mathlib.Core.Logic.{◌⊎◌, inl, inr}
 use mathlib.Core.Path.{◌≡◌, ap, refl, sym, ◌∙◌, subst}
 use native.Mathlib.Omega.{arith}
 use Rattle.base.proofs.Tests.{no_ft, or_all, or_false}
+use Rattle.std.specs.Prelude.{Err, None, Ok, Option, Result, Some, is_none}
 use Rattle.base.specs.Folds.{pick}
 use Rattle.load_text.specs.Bytes.{is_bad, is_newline, is_property_byte, is_sign, is_white, run}
 use Rattle.load_text.specs.Lines.{bad_from, fault, line_of, lines_of, name_end, opening, says_nothing, white_end}
 use Rattle.load_text.specs.Offsets.{is_end}
 use Rattle.load_text.specs.Strings.{part_of}
+use Rattle.load_text.specs.Numbers.{wrong_number}
 use Rattle.load_text.specs.declared.Fault.{Fault}
-use Rattle.load_text.specs.declared.Opening.TheVariants.{Bad as BadOpening, Named, Nothing as Silent}
-use Rattle.load_text.specs.declared.Verdict.{Verdict}
-use Rattle.load_text.specs.declared.Verdict.TheVariants.{Bad, Good}
+use Rattle.load_text.specs.declared.Wrong.TheVariants.{BadByte, Malformed, NoCommand, NoType, OutsideRule, TooManyDependencies, UnknownProperty}
+use Rattle.service.specs.declared.Kind.{Kind as ServiceKind}
+use Rattle.service.specs.declared.Settings.{Settings as ServiceSettings}
 use Rattle.load_text.proofs.Lines.{class_at, class_inside, drop_line, end_fits, lines_split, run_at}
 use Rattle.load_text.proofs.Offsets.{line_ends_at, line_goes_on_at}
 use Rattle.load_text.proofs.Runs.{run_within}
 use Rattle.load_value.specs.Quotes.{closes}
 use Rattle.load_value.specs.Values.{is_command, is_word, scan_of, word_of}
-use Rattle.load_value.specs.declared.Scan.{Scan}
-use Rattle.load_value.specs.declared.Scan.TheVariants.{Bad as BadValue, Tokens}
 use Rattle.load_value.specs.declared.Sizes.{Sizes}
 use Rattle.load_value.proofs.Faults.{Deciding, ScanFaulty, backslash as slash, hash as misplaced, quote as unclosed, scan_faulty}
 use Rattle.load_word.specs.Properties.{is_unknown, property_of, setting_of}
 use Rattle.load_word.specs.Words.{is_name, kind_of}
-use Rattle.load_word.specs.declared.Change.{Change}
-use Rattle.load_word.specs.declared.Change.TheVariants.{Refused as Outside, To}
 use Rattle.load_word.specs.declared.Property.{Property}
 use Rattle.load_word.specs.declared.Property.TheVariants.{Command as CommandProperty, Kind as KindProperty, Link, Setting, Unknown}
-use Rattle.load_word.specs.declared.Worth.{Worth}
-use Rattle.load_word.specs.declared.Worth.TheVariants.{Bad as BadWorth, Value}
 use Rattle.load_description.specs.Lines.{dependency_read, kind_read, line_read, opening_read, property_read, scan_read, setting_read, single_read, tokens_read, word_read}
 use Rattle.load_description.specs.Settings.{affected, blank, known, max_dependencies}
-use Rattle.load_description.specs.Texts.{clean_read, completion, lines_read, needs_command, read_on, text_read}
+use Rattle.load_description.specs.Texts.{checked, completion, lines_read, needs_command, read_on, text_read}
 use Rattle.load_description.specs.declared.Description.{Description}
-use Rattle.load_description.specs.declared.Line.{Line}
-use Rattle.load_description.specs.declared.Line.TheVariants.{Bad as BadLine, Good as GoodLine}
+use Rattle.load_description.specs.declared.Effect.{Effect}
 use Rattle.load_lent.specs.Refusals.{has_byte}
 use Rattle.guarantee.specs.Refusals.{Decides, InValue, backslash, bad_byte, first_at, hash, is_start, name, no_name, no_sign, quote, seventeenth, sign_at, value}
 
@@ -54,9 +49,9 @@ record FirstBad (l : List ℕ) (k : ℕ) : Type 0 where
   first : (i : ℕ) → i < k → is_bad (get_or l i 0) ≡ false
 
 -- where l begins at the offset i
-abbrev BadAt : ℕ → List ℕ → Verdict → Type 0
-BadAt i l Good = Unit {0}
-BadAt i l (Bad f) = (f.number ≡ 6) × (i ≤ f.at) × FirstBad l (f.at - i)
+abbrev BadAt : ℕ → List ℕ → Result (Unit {0}) Fault → Type 0
+BadAt i l (Ok u) = Unit {0}
+BadAt i l (Err f) = (f.wrong ≡ BadByte) × (i ≤ f.at) × FirstBad l (f.at - i)
 
 bad_at : (i : ℕ) (l : List ℕ) → BadAt i l (bad_from i l)
 unfolding bad_from
@@ -77,19 +72,19 @@ bad_at i (b ∷ bs) = by (is_bad b) refl (bad_from (i + 1) bs) (bad_at (i + 1) b
         let z : i - i ≡ 0 = omega arith in
         rw z record { inside = omega arith; bad = e; first = λ j u. absurd (omega arith) }
 
-    by : (t : Bool) → is_bad b ≡ t → (v : Verdict) → BadAt (i + 1) bs v → BadAt i (b ∷ bs) (pick t (Bad (fault 6 i)) v)
+    by : (t : Bool) → is_bad b ≡ t → (v : Result (Unit {0}) Fault) → BadAt (i + 1) bs v → BadAt i (b ∷ bs) (pick t (Err (fault BadByte i)) v)
     by true e v h = (refl, omega arith, here e)
-    by false e Good h = tt
-    by false e (Bad f) h = (h.0, omega (arith, h.1), later f.at h.1 e h.2)
+    by false e (Ok u) h = tt
+    by false e (Err f) h = (h.0, omega (arith, h.1), later f.at h.1 e h.2)
 
 -- ---- the value of a line, where it is well-formed
 
 -- 11 and 12 stand at the byte `seen`
-abbrev Seen : ℕ → Line → Type 0
-Seen seen (GoodLine e) = Unit {0}
-Seen seen (BadLine f) = (f.at ≡ seen) × ((f.number ≡ 11) ⊎ (f.number ≡ 12))
+abbrev Seen : ℕ → Result Effect Fault → Type 0
+Seen seen (Ok e) = Unit {0}
+Seen seen (Err f) = (f.at ≡ seen) × ((f.wrong ≡ OutsideRule) ⊎ (f.wrong ≡ TooManyDependencies))
 
-either_seen : (seen : ℕ) (b : Bool) (x y : Line) → Seen seen x → Seen seen y → Seen seen (pick b x y)
+either_seen : (seen : ℕ) (b : Bool) (x y : Result Effect Fault) → Seen seen x → Seen seen y → Seen seen (pick b x y)
 either_seen seen true x y h k = h
 either_seen seen false x y h k = k
 
@@ -98,14 +93,14 @@ module _ (s : List ℕ) (d : Description) (at seen : ℕ) where
   unfolding word_read dependency_read
   word_seen KindProperty w = go (kind_of w)
     where
-      go : (x : Worth) → Seen seen (kind_read seen x)
-      go (Value n) = tt
-      go BadWorth = (refl, inl refl)
+      go : (x : Option ServiceKind) → Seen seen (kind_read seen x)
+      go (Some k) = tt
+      go None = (refl, inl refl)
   word_seen (Setting n) w = go (setting_of n w d.settings)
     where
-      go : (x : Change) → Seen seen (setting_read seen x)
-      go (To v) = tt
-      go Outside = (refl, inl refl)
+      go : (x : Option ServiceSettings) → Seen seen (setting_read seen x)
+      go (Some v) = tt
+      go None = (refl, inl refl)
   word_seen (Link l) w =
       either_seen seen (is_name w) _ _
       (either_seen seen (known s d l w) _ _ tt (either_seen seen (ltb d.count max_dependencies) _ _ tt (refl, inr refl))) (refl, inl refl)
@@ -126,9 +121,9 @@ module _ (s : List ℕ) (d : Description) (at seen : ℕ) where
 -- ---- a line of the text s, which begins at `from`
 
 -- its fault stands at the byte that decided
-abbrev Decided : List ℕ → Line → Type 0
-Decided s (GoodLine e) = Unit {0}
-Decided s (BadLine f) = (f.at ≤ length s) × Decides s f.at f.number
+abbrev Decided : List ℕ → Result Effect Fault → Type 0
+Decided s (Ok e) = Unit {0}
+Decided s (Err f) = (f.at ≤ length s) × Decides s f.at (wrong_number f.wrong)
 
 -- the first byte of a list, by whether a run begins with it
 run_none : (p : ℕ → Bool) → p 0 ≡ false → (t : List ℕ) → run p t ≡ 0 → p (get_or t 0 0) ≡ false
@@ -248,9 +243,9 @@ module _ (s : List ℕ) (from : ℕ) where
           (omega (arith, b.1), backslash b.0 b.2 (subst (λ (j : ℕ). is_end s j ≡ true) z (line_ends_at s from)))
 
     -- the rule of its property, after the sign
-    seen_decided : (r : Line) → is_sign (get_or l sign 0) ≡ true → Seen (from + white_end l (sign + 1)) r → Decided s r
-    seen_decided (GoodLine e) g h = tt
-    seen_decided (BadLine f) g h = (omega (arith, h.0, line_in, run_within is_white l (sign + 1) after refl), by h.1)
+    seen_decided : (r : Result Effect Fault) → is_sign (get_or l sign 0) ≡ true → Seen (from + white_end l (sign + 1)) r → Decided s r
+    seen_decided (Ok e) g h = tt
+    seen_decided (Err f) g h = (omega (arith, h.0, line_in, run_within is_white l (sign + 1) after refl), by h.1)
       where
         after : sign + 1 ≤ length l
         after = omega (arith, class_inside is_sign refl l sign g)
@@ -263,7 +258,7 @@ module _ (s : List ℕ) (from : ℕ) where
             let z : from + (sign + 1) ≡ sign_at s from + 1 = omega (arith, sign_at_lem) in
             h.0 ∙ sym (white_at (sign + 1) after) ∙ ap (white_end s) z
 
-        by : (f.number ≡ 11) ⊎ (f.number ≡ 12) → Decides s f.at f.number
+        by : (f.wrong ≡ OutsideRule) ⊎ (f.wrong ≡ TooManyDependencies) → Decides s f.at (wrong_number f.wrong)
         by (inl e) = rw e (value from start signed first)
         by (inr e) = rw e (seventeenth from start signed first)
 
@@ -280,14 +275,14 @@ module _ (s : List ℕ) (from : ℕ) where
           begun : is_property_byte (get_or s (from + begin) 0) ≡ true
           begun = name_at_lem (run_some is_property_byte (drop begin l) (omega (arith, eqb-false begin end e)))
 
-          by : (b : Bool) (x : Scan) → ScanFaulty v x
-              → Decided s (pick b (BadLine (fault 10 (from + begin))) (scan_read s d p (from + (sign + 1)) (from + white_end l (sign + 1)) x v))
+          by : (b : Bool) (x : Result Sizes Fault) → ScanFaulty v x
+              → Decided s (pick b (Err (fault UnknownProperty (from + begin))) (scan_read s d p (from + (sign + 1)) (from + white_end l (sign + 1)) x v))
           by true x h = (omega (arith, line_in, begin_in), name from start (sym first_at_lem) begun)
-          by false (Tokens z) h =
+          by false (Ok z) h =
               let at = from + (sign + 1) in
               let seen = from + white_end l (sign + 1) in
               seen_decided (tokens_read s d p at seen z v) g (tokens_seen s d at seen p z v)
-          by false (BadValue f) h = value_decided g f.at f.number h
+          by false (Err f) h = value_decided g f.at (wrong_number f.wrong) h
 
       -- a line that says something and has no name
       nameless_decided : says_nothing l begin ≡ false → eqb begin end ≡ true → Decides s (from + begin) 7
@@ -303,8 +298,8 @@ module _ (s : List ℕ) (from : ℕ) where
       line_decided = by (says_nothing l begin) (eqb begin end) (is_sign (get_or l sign 0)) refl refl refl
         where
           by : (x y z : Bool) → says_nothing l begin ≡ x → eqb begin end ≡ y → is_sign (get_or l sign 0) ≡ z
-              → Decided s (opening_read s d from l (pick x Silent (pick y (BadOpening (fault 7 begin))
-              (pick z (Named (record { from = begin; end = end; value = sign + 1 })) (BadOpening (fault 7 sign))))))
+              → Decided s (opening_read s d from l (pick x (Ok None) (pick y (Err (fault Malformed begin))
+              (pick z (Ok (Some (record { from = begin; end = end; value = sign + 1 }))) (Err (fault Malformed sign))))))
           by true y z h e g = tt
           by false true z h e g = (omega (arith, line_in, begin_in), nameless_decided h e)
           by false false true h e g = named_decided e g (property_of (part_of l begin end))
@@ -317,18 +312,22 @@ pub record Placed (s : List ℕ) (at number : ℕ) : Type 0 where
   pub inside : at ≤ length s
   pub decides : Decides s at number
 
-abbrev TextDecided : List ℕ → Verdict → Type 0
-TextDecided s Good = Unit {0}
-TextDecided s (Bad f) = has_byte f.number ≡ true → Placed s f.at f.number
+abbrev TextDecided : {A : Type 0} → List ℕ → Result A Fault → Type 0
+TextDecided s (Ok x) = Unit {0}
+TextDecided s (Err f) = has_byte (wrong_number f.wrong) ≡ true → Placed s f.at (wrong_number f.wrong)
 
 completion_decided : (s : List ℕ) (d : Description) → TextDecided s (completion d)
 unfolding completion
-completion_decided s d = by (not d.typed) (needs_command d.settings.kind && eqb d.kept.command 0)
+completion_decided s d = by (not d.typed) (needs_command d.settings.kind && is_none d.kept.command)
   where
-    by : (x y : Bool) → TextDecided s (pick x (Bad (fault 13 0)) (pick y (Bad (fault 14 0)) Good))
+    by : (x y : Bool) → TextDecided s (pick x (Err (fault NoType 0)) (pick y (Err (fault NoCommand 0)) (Ok (tt {0}))))
     by true y = λ e. no_ft e
     by false true = λ e. no_ft e
     by false false = tt
+
+checked_decided : (s : List ℕ) (c : Result (Unit {0}) Fault) (r : Result Description Fault) → TextDecided s c → TextDecided s r → TextDecided s (checked c r)
+checked_decided s (Ok u) r h k = k
+checked_decided s (Err f) r h k = h
 
 -- lines are left, so a byte is
 lines_left : (s : List ℕ) (from : ℕ) {l : List ℕ} {ls : List (List ℕ)} → lines_of (drop from s) ≡ l ∷ ls → from < length s
@@ -350,9 +349,9 @@ next_start s from h =
     rw (z, newline) (or_all (eqb (k + 1) 0))
 
 lines_decided : (s : List ℕ) (d : Description) (from : ℕ) (ls : List (List ℕ)) → lines_of (drop from s) ≡ ls → (from < length s → is_start s from ≡ true)
-    → TextDecided s (lines_read s d from ls).answer
+    → TextDecided s (lines_read s d from ls)
 unfolding lines_read
-lines_decided s d from [] e g = completion_decided s d
+lines_decided s d from [] e g = checked_decided s (completion d) (Ok d) (completion_decided s d) tt
 lines_decided s d from (l ∷ ls) e g =
     go (line_read s d from l) decided (λ d'. lines_decided s d' (from + length l + 1) ls rest start)
   where
@@ -376,21 +375,23 @@ lines_decided s d from (l ∷ ls) e g =
     decided : Decided s (line_read s d from l)
     decided = subst (λ (x : List ℕ). Decided s (line_read s d from x)) (sym is) (line_decided s from u (g u) d)
 
-    go : (r : Line) → Decided s r → ((d' : Description) → TextDecided s (lines_read s d' (from + length l + 1) ls).answer)
-        → TextDecided s (read_on r d (λ d'. lines_read s d' (from + length l + 1) ls)).answer
-    go (GoodLine x) k on = on (affected d x)
-    go (BadLine f) k on = λ _. record { inside = k.0; decides = k.1 }
+    go : (r : Result Effect Fault) → Decided s r → ((d' : Description) → TextDecided s (lines_read s d' (from + length l + 1) ls))
+        → TextDecided s (read_on r d (λ d'. lines_read s d' (from + length l + 1) ls))
+    go (Ok x) k on = on (affected d x)
+    go (Err f) k on = λ _. record { inside = k.0; decides = k.1 }
 
-text_decided : (s : List ℕ) → TextDecided s (text_read s).answer
+bad_decided : (s : List ℕ) (v : Result (Unit {0}) Fault) → BadAt 0 s v → TextDecided s v
+bad_decided s (Ok u) h = tt
+bad_decided s (Err f) h = λ _. let z : f.at - 0 ≡ f.at = omega arith in let b = subst (λ (k : ℕ). FirstBad s k) z h.2 in record {
+  inside = omega (arith, b.inside);
+  decides = rw h.0 (bad_byte b.inside b.bad b.first);
+}
+
+text_decided : (s : List ℕ) → TextDecided s (text_read s)
 unfolding text_read
-text_decided s = by (bad_from 0 s) (bad_at 0 s)
-  where
-    by : (v : Verdict) → BadAt 0 s v → TextDecided s (clean_read v blank (lines_read s blank 0 (lines_of s))).answer
-    by Good h = lines_decided s blank 0 (lines_of s) refl (λ _. refl)
-    by (Bad f) h = λ _. let z : f.at - 0 ≡ f.at = omega arith in let b = subst (λ (k : ℕ). FirstBad s k) z h.2 in record {
-      inside = omega (arith, b.inside);
-      decides = rw h.0 (bad_byte b.inside b.bad b.first);
-    }
+text_decided s =
+    checked_decided s (bad_from 0 s) (lines_read s blank 0 (lines_of s)) (bad_decided s (bad_from 0 s) (bad_at 0 s))
+    (lines_decided s blank 0 (lines_of s) refl (λ _. refl))
 
-pub text_placed : (s : List ℕ) {f : Fault} → (text_read s).answer ≡ Bad f → has_byte f.number ≡ true → Placed s f.at f.number
-text_placed s e h = subst (λ (v : Verdict). TextDecided s v) e (text_decided s) h
+pub text_placed : (s : List ℕ) {f : Fault} → text_read s ≡ Err f → has_byte (wrong_number f.wrong) ≡ true → Placed s f.at (wrong_number f.wrong)
+text_placed s e h = subst (λ (v : Result Description Fault). TextDecided s v) e (text_decided s) h

@@ -5,8 +5,9 @@ use lib.Dec.{leb, ltb}
 use lib.ListN.{get_or, replicate, set}
 use mathlib.Core.Bool.{Bool, false, true}
 use mathlib.Core.List.{List}
-use mathlib.Core.Path.{◌≡◌, refl}
+use mathlib.Core.Path.{◌≡◌, refl, subst}
 use native.Mathlib.Omega.{arith}
+use Rattle.std.specs.Prelude.{Err, Ok, Result}
 use Rattle.base.specs.Folds.{every, first, pick, some}
 use Rattle.base.specs.Links.{cyclic, reach}
 use Rattle.base.specs.Sets.{has_bit, within}
@@ -22,8 +23,8 @@ use Rattle.rules.specs.Dependencies.{all_links}
 use Rattle.rules.specs.WellFormed.{links_inside, settings_in_range, table_formed}
 use Rattle.rules.proofs.Links.{table_sound}
 use Rattle.load_text.specs.Lines.{fault}
-use Rattle.load_text.specs.declared.Verdict.{Verdict}
-use Rattle.load_text.specs.declared.Verdict.TheVariants.{Bad as Bad, Good as Good}
+use Rattle.load_text.specs.declared.Fault.{Fault}
+use Rattle.load_text.specs.declared.Wrong.TheVariants.{NoSuchService, TooManyDependencies}
 use Rattle.load_word.specs.declared.Link.{Link}
 use Rattle.load_word.specs.declared.Link.TheVariants.{DependsMs, DependsOn, WaitsFor}
 use Rattle.load_description.specs.Settings.{blank, dependency_at, description_at, max_dependencies, word_at}
@@ -31,11 +32,12 @@ use Rattle.load_description.specs.Texts.{text_read}
 use Rattle.load_description.specs.declared.Dependency.{Dependency as Named}
 use Rattle.load_description.specs.declared.Description.{Description}
 use Rattle.load_lent.specs.Checks.{find}
-use Rattle.load_links.specs.Links.{links_at, links_from, links_in, lowest_cyclic, no_links, services_from, services_on, settings_of, with_link}
+use Rattle.load_links.specs.Links.{links_at, links_from, links_in, lowest_cyclic, no_links, services_from, settings_of, with_link}
 use Rattle.load_lent.specs.Parts.{name_at, service_count, text_at}
-use Rattle.loader.specs.Texts.{descriptions_from, descriptions_on, no_descriptions}
-use Rattle.loader.proofs.Outcomes.{every_load, set_descriptions, set_services}
-use Rattle.load_links.specs.declared.Linked.{Linked}
+use Rattle.load_lent.specs.Refusals.{in_text}
+use Rattle.load_lent.specs.declared.Refused.{Refused}
+use Rattle.loader.specs.Texts.{descriptions_from, no_descriptions}
+use Rattle.loader.proofs.Outcomes.{Whole, every_load}
 use Rattle.load_links.specs.declared.Links.{Links}
 use Rattle.guarantee.specs.Guarantee.{LoadsFormed}
 use Rattle.guarantee.proofs.Values.{InRange, default_ranged, text_few, text_in}
@@ -60,8 +62,12 @@ link_in n l DependsMs i u h =
 link_in n l WaitsFor i u h =
     record { hard = h.hard; milestone = h.milestone; soft = within_or n l.soft (2 ^ i) h.soft (within_power n i u) }
 
+abbrev Linked : ℕ → Result Links Fault → Type 0
+Linked n (Ok l) = LinksIn n l
+Linked n (Err f) = Unit {0}
+
 links_from_lem : (name : ℕ → List ℕ) (n : ℕ) (text : List ℕ) (d : Description) (l : Links) (k m : ℕ) → LinksIn n l
-    → LinksIn n (links_from name n text d l k m).links
+    → Linked n (links_from name n text d l k m)
 unfolding links_from
 links_from_lem name n text d l k zero h = h
 links_from_lem name n text d l k (suc m) h = go (ltb i n) refl (λ l'. links_from_lem name n text d l' (k + 1) m)
@@ -72,27 +78,27 @@ links_from_lem name n text d l k (suc m) h = go (ltb i n) refl (λ l'. links_fro
     i : ℕ
     i = find name n (word_at text e.at)
 
-    go : (b : Bool) → ltb i n ≡ b → ((l' : Links) → LinksIn n l' → LinksIn n (links_from name n text d l' (k + 1) m).links)
-        → LinksIn n (pick b (links_from name n text d (with_link l e.link i) (k + 1) m) (record { answer = Bad (fault 15 e.at); links = l })).links
+    go : (b : Bool) → ltb i n ≡ b → ((l' : Links) → LinksIn n l' → Linked n (links_from name n text d l' (k + 1) m))
+        → Linked n (pick b (links_from name n text d (with_link l e.link i) (k + 1) m) (Err (fault NoSuchService e.at)))
     go true q rest = rest (with_link l e.link i) (link_in n l e.link i (ltb-true i n q) h)
-    go false q rest = h
+    go false q rest = tt
 
 no_links_in : (n : ℕ) → LinksIn n no_links
 no_links_in n = record { hard = within_none n; milestone = within_none n; soft = within_none n }
 
-links_in_lem : (name : ℕ → List ℕ) (n : ℕ) (text : List ℕ) (d : Description) → LinksIn n (links_in name n text d).links
+links_in_lem : (name : ℕ → List ℕ) (n : ℕ) (text : List ℕ) (d : Description) → Linked n (links_in name n text d)
 unfolding links_in
 links_in_lem name n text d = go (leb d.count max_dependencies)
   where
-    go : (b : Bool) → LinksIn n (pick b (links_from name n text d no_links 0 d.count) (record { answer = Bad (fault 12 0); links = no_links })).links
+    go : (b : Bool) → Linked n (pick b (links_from name n text d no_links 0 d.count) (Err (fault TooManyDependencies 0)))
     go true = links_from_lem name n text d no_links 0 d.count (no_links_in n)
-    go false = no_links_in n
+    go false = tt
 
 -- a description that was read is never refused for its number of dependencies: all that it names are looked through
-pub read_looked_through : (name : ℕ → List ℕ) (n : ℕ) (text t : List ℕ) → let d = (text_read t).description in
-    links_in name n text d ≡ links_from name n text d no_links 0 d.count
+pub read_looked_through : (name : ℕ → List ℕ) (n : ℕ) (text t : List ℕ) {d : Description} → text_read t ≡ Ok d
+    → links_in name n text d ≡ links_from name n text d no_links 0 d.count
 unfolding links_in
-read_looked_through name n text t = rw (text_few t)
+read_looked_through name n text t e = rw (text_few t e)
 
 -- ---- the settings of a service
 
@@ -112,44 +118,43 @@ default_in n = record { inside = simp tests ((within_none n, within_none n), wit
 abbrev AllIn : List Description → Type 0
 AllIn ds = (i : ℕ) → InRange (description_at ds i).settings
 
-descriptions_in : (text : ℕ → List ℕ) (ds : List Description) (j m : ℕ) → AllIn ds → AllIn (descriptions_from text ds j m).descriptions
+abbrev Described : Result (List Description) Refused → Type 0
+Described (Ok ds) = AllIn ds
+Described (Err r) = Unit {0}
+
+descriptions_in : (text : ℕ → List ℕ) (ds : List Description) (j m : ℕ) → AllIn ds → Described (descriptions_from text ds j m)
 unfolding descriptions_from
 descriptions_in text ds j zero h = h
-descriptions_in text ds j (suc m) h =
-    go (text_read (text j)).answer
-    (descriptions_in text (set ds j (text_read (text j)).description) (j + 1) m
-    (λ i. set_holds (λ d. InRange d.settings) ds j i (text_read (text j)).description blank (λ _. text_in (text j)) (h i)))
+descriptions_in text ds j (suc m) h = go (text_read (text j)) refl (λ d. descriptions_in text (set ds j d) (j + 1) m)
   where
-    go : (v : Verdict) → AllIn (descriptions_from text (set ds j (text_read (text j)).description) (j + 1) m).descriptions
-        → AllIn (descriptions_on (text j) j v ds (descriptions_from text (set ds j (text_read (text j)).description) (j + 1) m)).descriptions
-    go Good k = k
-    go (Bad f) k = h
+    go : (r : Result Description Fault) → text_read (text j) ≡ r → ((d : Description) → AllIn (set ds j d) → Described (descriptions_from text (set ds j d) (j + 1) m))
+        → Described (in_text (text j) j r (λ d. descriptions_from text (set ds j d) (j + 1) m))
+    go (Ok d) e on = on d (λ i. set_holds (λ d. InRange d.settings) ds j i d blank (λ _. text_in (text j) e) (h i))
+    go (Err f) e on = tt
 
 -- every service of the set is in range
 abbrev AllServices : ℕ → List Settings → Type 0
 AllServices n vs = (i : ℕ) → ServiceIn n (get_or vs i default_settings)
 
-services_in_lem : (name text : ℕ → List ℕ) (ds : List Description) (n : ℕ) (vs : List Settings) (j m : ℕ) → AllIn ds → AllServices n vs → AllServices n (services_from name text ds n vs j m).services
+abbrev Made : ℕ → Result (List Settings) Refused → Type 0
+Made n (Ok vs) = AllServices n vs
+Made n (Err r) = Unit {0}
+
+services_in_lem : (name text : ℕ → List ℕ) (ds : List Description) (n : ℕ) (vs : List Settings) (j m : ℕ) → AllIn ds → AllServices n vs
+    → Made n (services_from name text ds n vs j m)
 unfolding services_from
 services_in_lem name text ds n vs j zero h k = k
 services_in_lem name text ds n vs j (suc m) h k =
-    go r.answer
-    (services_in_lem name text ds n vs' (j + 1) m h
-    (λ i. set_holds (ServiceIn n) vs j i (settings_of d r.links) default_settings
-    (λ _. service_in n d r.links (h j) (links_in_lem name n (text j) d)) (k i)))
+    go (links_in name n (text j) d) (links_in_lem name n (text j) d) (λ l. services_in_lem name text ds n (set vs j (settings_of d l)) (j + 1) m h)
   where
     d : Description
     d = description_at ds j
 
-    r : Linked
-    r = links_in name n (text j) d
-
-    vs' : List Settings
-    vs' = set vs j (settings_of d r.links)
-
-    go : (v : Verdict) → AllServices n (services_from name text ds n vs' (j + 1) m).services → AllServices n (services_on (text j) j v vs (services_from name text ds n vs' (j + 1) m)).services
-    go Good q = q
-    go (Bad f) q = k
+    go : (r : Result Links Fault) → Linked n r
+        → ((l : Links) → AllServices n (set vs j (settings_of d l)) → Made n (services_from name text ds n (set vs j (settings_of d l)) (j + 1) m))
+        → Made n (in_text (text j) j r (λ l. services_from name text ds n (set vs j (settings_of d l)) (j + 1) m))
+    go (Ok l) q on = on l (λ i. set_holds (ServiceIn n) vs j i (settings_of d l) default_settings (λ _. service_in n d l (h j) q) (k i))
+    go (Err f) q on = tt
 
 -- 16 was not due: no service reaches itself
 no_cycle_found : (p : ℕ → Bool) (n : ℕ) → leb n (first p n) ≡ true → some p n ≡ false
@@ -178,17 +183,19 @@ none_formed = refl
 -- ---- the load
 
 -- the services of a set that loads are in range
-set_in : (lent ends : List ℕ) → AllServices (service_count ends) (set_services lent ends)
-set_in lent ends =
-    services_in_lem (name_at lent ends) (text_at lent ends) (set_descriptions lent ends) n (replicate max_services default_settings) 0 n
+set_in : (lent ends : List ℕ) {ds : List Description} {vs : List Settings} → Whole lent ends ds vs → AllServices (service_count ends) vs
+set_in lent ends {ds} w =
+    subst (Made n) w.linked
+    (services_in_lem (name_at lent ends) (text_at lent ends) ds n (replicate max_services default_settings) 0 n
+    (subst Described w.read
     (descriptions_in (text_at lent ends) no_descriptions 0 n
-    (λ i. copies_hold (λ d. InRange d.settings) max_services i blank blank default_ranged default_ranged))
-    (λ i. copies_hold (ServiceIn n) max_services i default_settings default_settings (default_in n) (default_in n))
+    (λ i. copies_hold (λ d. InRange d.settings) max_services i blank blank default_ranged default_ranged)))
+    (λ i. copies_hold (ServiceIn n) max_services i default_settings default_settings (default_in n) (default_in n)))
   where
     n : ℕ
     n = service_count ends
 
 pub loads_formed : LoadsFormed
 loads_formed lent ends tokens =
-    every_load (λ o. table_formed o.loaded.table ≡ true) tokens (λ k s l c. none_formed) lent ends
-    (λ few none. made_formed (service_count ends) (set_services lent ends) few (set_in lent ends) none)
+    every_load (λ o. table_formed o.loaded.table ≡ true) tokens (λ r. none_formed) lent ends
+    (λ ds vs w. made_formed (service_count ends) vs w.few (set_in lent ends w) w.acyclic)

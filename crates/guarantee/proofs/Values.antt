@@ -5,50 +5,40 @@ use lib.Dec.{eqb, leb, ltb}
 use lib.ListN.{drop, get_or, length, set}
 use mathlib.Core.Bool.{Bool, ◌&&◌, ◌||◌, false, not, true}
 use mathlib.Core.List.{List, [], ◌∷◌}
-use mathlib.Core.Path.{◌≡◌, refl}
+use mathlib.Core.Path.{◌≡◌, refl, subst}
 use native.Mathlib.Omega.{arith}
+use Rattle.std.specs.Prelude.{Err, None, Ok, Option, Result, Some, option_map}
 use Rattle.base.specs.Folds.{pick}
 use Rattle.base.proofs.Lists.{set_holds}
 use Rattle.base.proofs.Tests.{and_true}
 use Rattle.service.specs.Limits.{longest_time, max_count}
-use Rattle.service.specs.Numbers.{kind_number, settings_from, settings_numbers, with_number}
+use Rattle.service.specs.Numbers.{flag_number, kind_number, settings_from, settings_numbers, signal_number, with_number}
 use Rattle.service.specs.Settings.{default_settings}
+use Rattle.service.specs.declared.Kind.{Kind as ServiceKind}
 use Rattle.service.specs.declared.Settings.{Settings as ServiceSettings}
 use Rattle.load_text.specs.Lines.{bad_from, lines_of, opening, white_end}
 use Rattle.load_text.specs.Strings.{part_of}
-use Rattle.load_text.specs.declared.Opening.{Opening}
-use Rattle.load_text.specs.declared.Opening.TheVariants.{Bad as BadOpening, Named, Nothing as Silent}
-use Rattle.load_text.specs.declared.Verdict.{Verdict}
-use Rattle.load_text.specs.declared.Verdict.TheVariants.{Bad as Bad, Good as Good}
+use Rattle.load_text.specs.declared.Fault.{Fault}
+use Rattle.load_text.specs.declared.Places.{Places}
 use Rattle.load_value.specs.Values.{is_command, is_word, scan_of, word_of}
-use Rattle.load_value.specs.declared.Scan.{Scan}
-use Rattle.load_value.specs.declared.Scan.TheVariants.{Bad as BadValue, Tokens}
 use Rattle.load_value.specs.declared.Sizes.{Sizes}
 use Rattle.load_word.specs.Decimals.{count_end, count_of, blank as decimalBlank, decimal_from, time_end, time_of, units_of, valued}
 use Rattle.load_word.specs.Properties.{checked, is_unknown, property_of, setting_of, stored}
 use Rattle.load_word.specs.Words.{flag_of, is_name, kind_of, no_of, signal_of}
-use Rattle.load_word.specs.declared.Change.{Change}
-use Rattle.load_word.specs.declared.Change.TheVariants.{Refused, To}
 use Rattle.load_word.specs.declared.Command.TheVariants.{Start, Stop}
 use Rattle.load_word.specs.declared.Decimal.{Decimal}
 use Rattle.load_word.specs.declared.Link.{Link as LinkName}
 use Rattle.load_word.specs.declared.Property.{Property}
 use Rattle.load_word.specs.declared.Property.TheVariants.{Command as CommandProperty, Kind as KindProperty, Link, Setting, Unknown}
-use Rattle.load_word.specs.declared.Reading.{Reading}
-use Rattle.load_word.specs.declared.Reading.TheVariants.{Off, On}
 use Rattle.load_word.specs.declared.Setting.{Setting as SettingName}
 use Rattle.load_word.specs.declared.Setting.TheVariants.{Restart, RestartDelay, RestartLimitCount, RestartLimitInterval}
 use Rattle.load_word.specs.declared.Setting.TheVariants.{SmoothRecovery, StartTimeout, StopTimeout, TermSignal}
-use Rattle.load_word.specs.declared.Worth.{Worth}
-use Rattle.load_word.specs.declared.Worth.TheVariants.{Bad as BadWorth, Value}
 use Rattle.load_description.specs.Lines.{dependency_read, kind_read, line_read, opening_read, property_read, scan_read, setting_read, single_read, tokens_read, word_read}
 use Rattle.load_description.specs.Settings.{affected, blank, known, max_dependencies}
-use Rattle.load_description.specs.Texts.{clean_read, lines_read, read_on, text_read}
+use Rattle.load_description.specs.Texts.{checked as checkedRead, completion, lines_read, read_on, text_read}
 use Rattle.load_description.specs.declared.Description.{Description}
 use Rattle.load_description.specs.declared.Effect.{Effect}
 use Rattle.load_description.specs.declared.Effect.TheVariants.{Command, Dependency, Kind, Nothing, Settings}
-use Rattle.load_description.specs.declared.Line.{Line}
-use Rattle.load_description.specs.declared.Line.TheVariants.{Bad as BadLine, Good as GoodLine}
 
 -- ---- settings in range
 
@@ -84,64 +74,64 @@ stored_in k n v e h = record {
 -- ---- what a word is worth
 
 -- the number that a word is worth, where it is worth one, has p
-abbrev Worthy : (ℕ → Bool) → Worth → Type 0
-Worthy p (Value n) = p n ≡ true
-Worthy p BadWorth = Unit {0}
+abbrev Worthy : (ℕ → Bool) → Option ℕ → Type 0
+Worthy p (Some n) = p n ≡ true
+Worthy p None = Unit {0}
 
-any_worth : (x : Worth) → Worthy (λ n. true) x
-any_worth (Value n) = refl
-any_worth BadWorth = tt
+any_worth : (x : Option ℕ) → Worthy (λ n. true) x
+any_worth (Some n) = refl
+any_worth None = tt
 
 time_at_most : (w : List ℕ) → Worthy (λ n. leb n longest_time) (time_of w)
 unfolding time_of time_end
 time_at_most w = go (decimal_from decimalBlank w)
   where
     last : (k : Decimal) (b : Bool) → (ltb 0 k.whole && (not k.point || ltb 0 k.part) && leb (units_of k) longest_time) ≡ b
-        → Worthy (λ n. leb n longest_time) (pick b (Value (units_of k)) BadWorth)
+        → Worthy (λ n. leb n longest_time) (pick b (Some (units_of k)) None)
     last k true e = ((and_true (ltb 0 k.whole && (not k.point || ltb 0 k.part)) (leb (units_of k) longest_time)).0 e).1
     last k false e = tt
 
-    go : (r : Reading) → Worthy (λ n. leb n longest_time) (valued r time_end)
-    go (On k) = last k _ refl
-    go Off = tt
+    go : (r : Option Decimal) → Worthy (λ n. leb n longest_time) (valued r time_end)
+    go (Some k) = last k _ refl
+    go None = tt
 
 count_at_most : (w : List ℕ) → Worthy (λ n. leb n max_count) (count_of w)
 unfolding count_of count_end
 count_at_most w = go (decimal_from decimalBlank w)
   where
     last : (k : Decimal) (b : Bool) → (ltb 0 k.whole && leb k.whole 5 && not k.point && leb k.value max_count) ≡ b
-        → Worthy (λ n. leb n max_count) (pick b (Value k.value) BadWorth)
+        → Worthy (λ n. leb n max_count) (pick b (Some k.value) None)
     last k true e = ((and_true (ltb 0 k.whole && leb k.whole 5 && not k.point) (leb k.value max_count)).0 e).1
     last k false e = tt
 
-    go : (r : Reading) → Worthy (λ n. leb n max_count) (valued r count_end)
-    go (On k) = last k _ refl
-    go Off = tt
+    go : (r : Option Decimal) → Worthy (λ n. leb n max_count) (valued r count_end)
+    go (Some k) = last k _ refl
+    go None = tt
 
 -- ---- a setting's word
 
-abbrev ChangeIn : Change → Type 0
-ChangeIn (To v) = InRange v
-ChangeIn Refused = Unit {0}
+abbrev ChangeIn : Option ServiceSettings → Type 0
+ChangeIn (Some v) = InRange v
+ChangeIn None = Unit {0}
 
-worth_in : (k : ℕ) (v : ServiceSettings) (x : Worth) → InRange v → Worthy (in_rule k) x → ChangeIn (stored k v x)
-worth_in k v (Value n) h e = stored_in k n v e h
-worth_in k v BadWorth h e = tt
+worth_in : (k : ℕ) (v : ServiceSettings) (x : Option ℕ) → InRange v → Worthy (in_rule k) x → ChangeIn (stored k v x)
+worth_in k v (Some n) h e = stored_in k n v e h
+worth_in k v None h e = tt
 
-checked_in : (v : ServiceSettings) (x : Worth) → InRange v → ChangeIn (checked v x)
-checked_in v (Value n) h = h
-checked_in v BadWorth h = tt
+checked_in : (v : ServiceSettings) (x : Option Bool) → InRange v → ChangeIn (checked v x)
+checked_in v (Some b) h = h
+checked_in v None h = tt
 
 setting_in : (s : SettingName) (w : List ℕ) (v : ServiceSettings) → InRange v → ChangeIn (setting_of s w v)
 unfolding setting_of
-setting_in Restart w v h = worth_in 1 v (flag_of w) h (any_worth (flag_of w))
+setting_in Restart w v h = worth_in 1 v (option_map flag_number (flag_of w)) h (any_worth (option_map flag_number (flag_of w)))
 setting_in SmoothRecovery w v h = checked_in v (no_of w) h
 setting_in RestartDelay w v h = worth_in 2 v (time_of w) h (time_at_most w)
 setting_in RestartLimitInterval w v h = worth_in 3 v (time_of w) h (time_at_most w)
 setting_in RestartLimitCount w v h = worth_in 4 v (count_of w) h (count_at_most w)
 setting_in StartTimeout w v h = worth_in 5 v (time_of w) h (time_at_most w)
 setting_in StopTimeout w v h = worth_in 6 v (time_of w) h (time_at_most w)
-setting_in TermSignal w v h = worth_in 7 v (signal_of w) h (any_worth (signal_of w))
+setting_in TermSignal w v h = worth_in 7 v (option_map signal_number (signal_of w)) h (any_worth (option_map signal_number (signal_of w)))
 
 -- ---- a line's effect
 
@@ -153,16 +143,16 @@ EffectIn d (Settings v) = InRange v
 EffectIn d (Command c at) = Unit {0}
 EffectIn d (Dependency l at) = ltb d.count max_dependencies ≡ true
 
-abbrev LineIn : Description → Line → Type 0
-LineIn d (GoodLine e) = EffectIn d e
-LineIn d (BadLine f) = Unit {0}
+abbrev LineIn : Description → Result Effect Fault → Type 0
+LineIn d (Ok e) = EffectIn d e
+LineIn d (Err f) = Unit {0}
 
 -- what holds of both sides of a choice, each where its side is taken, holds of the choice
-by_test : (d : Description) (b : Bool) (x y : Line) → (b ≡ true → LineIn d x) → (b ≡ false → LineIn d y) → LineIn d (pick b x y)
+by_test : (d : Description) (b : Bool) (x y : Result Effect Fault) → (b ≡ true → LineIn d x) → (b ≡ false → LineIn d y) → LineIn d (pick b x y)
 by_test d true x y f g = f refl
 by_test d false x y f g = g refl
 
-either_line : (d : Description) (b : Bool) (x y : Line) → LineIn d x → LineIn d y → LineIn d (pick b x y)
+either_line : (d : Description) (b : Bool) (x y : Result Effect Fault) → LineIn d x → LineIn d y → LineIn d (pick b x y)
 either_line d b x y f g = by_test d b x y (λ _. f) (λ _. g)
 
 dependency_in : (text : List ℕ) (d : Description) (l : LinkName) (at seen : ℕ) (w : List ℕ) → LineIn d (dependency_read text d l at seen w)
@@ -175,14 +165,14 @@ module _ (text : List ℕ) (d : Description) (h : InRange d.settings) where
   unfolding word_read
   word_in KindProperty at seen w = go (kind_of w)
     where
-      go : (x : Worth) → LineIn d (kind_read seen x)
-      go (Value n) = tt
-      go BadWorth = tt
+      go : (x : Option ServiceKind) → LineIn d (kind_read seen x)
+      go (Some k) = tt
+      go None = tt
   word_in (Setting s) at seen w = go (setting_of s w d.settings) (setting_in s w d.settings h)
     where
-      go : (x : Change) → ChangeIn x → LineIn d (setting_read seen x)
-      go (To v) k = k
-      go Refused k = tt
+      go : (x : Option ServiceSettings) → ChangeIn x → LineIn d (setting_read seen x)
+      go (Some v) k = k
+      go None k = tt
   word_in (Link l) at seen w = either_line d (is_name w) _ _ (dependency_in text d l at seen w) tt
   word_in (CommandProperty c) at seen w = tt
   word_in Unknown at seen w = tt
@@ -202,14 +192,14 @@ module _ (text : List ℕ) (d : Description) (h : InRange d.settings) where
   unfolding line_read property_read
   line_in from l = go (opening l)
     where
-      scanned : (p : Property) (at seen : ℕ) (s : Scan) (value : List ℕ) → LineIn d (scan_read text d p at seen s value)
-      scanned p at seen (Tokens z) value = tokens_in_lem p at seen z value
-      scanned p at seen (BadValue f) value = tt
+      scanned : (p : Property) (at seen : ℕ) (s : Result Sizes Fault) (value : List ℕ) → LineIn d (scan_read text d p at seen s value)
+      scanned p at seen (Ok z) value = tokens_in_lem p at seen z value
+      scanned p at seen (Err f) value = tt
 
-      go : (o : Opening) → LineIn d (opening_read text d from l o)
-      go Silent = tt
-      go (BadOpening f) = tt
-      go (Named s) =
+      go : (o : Result (Option Places) Fault) → LineIn d (opening_read text d from l o)
+      go (Ok None) = tt
+      go (Err f) = tt
+      go (Ok (Some s)) =
           let p = property_of (part_of l s.from s.end) in
           let value = drop s.value l in
           either_line d (is_unknown p) _ _ tt (scanned p (from + s.value) (from + white_end l s.value) (scan_of value) value)
@@ -233,27 +223,33 @@ affected_in d (Dependency l at) h k =
     let room = ltb-true d.count max_dependencies k in
     record { ranged = h.ranged; few = le-leb (d.count + 1) max_dependencies (omega arith) }
 
-lines_in : (text : List ℕ) (d : Description) (from : ℕ) (ls : List (List ℕ)) → Sound d → Sound (lines_read text d from ls).description
+-- so is what is read
+abbrev SoundRead : Result Description Fault → Type 0
+SoundRead (Ok d) = Sound d
+SoundRead (Err f) = Unit {0}
+
+checked_sound : (c : Result (Unit {0}) Fault) (r : Result Description Fault) → SoundRead r → SoundRead (checkedRead c r)
+checked_sound (Ok u) r h = h
+checked_sound (Err f) r h = tt
+
+lines_in : (text : List ℕ) (d : Description) (from : ℕ) (ls : List (List ℕ)) → Sound d → SoundRead (lines_read text d from ls)
 unfolding lines_read
-lines_in text d from [] h = h
+lines_in text d from [] h = checked_sound (completion d) (Ok d) h
 lines_in text d from (l ∷ ls) h =
     go (line_read text d from l) (line_in text d h.ranged from l) (λ d'. lines_in text d' (from + length l + 1) ls)
   where
-    go : (r : Line) → LineIn d r → ((d' : Description) → Sound d' → Sound (lines_read text d' (from + length l + 1) ls).description)
-        → Sound (read_on r d (λ d'. lines_read text d' (from + length l + 1) ls)).description
-    go (GoodLine e) k rest = rest (affected d e) (affected_in d e h k)
-    go (BadLine f) k rest = h
+    go : (r : Result Effect Fault) → LineIn d r → ((d' : Description) → Sound d' → SoundRead (lines_read text d' (from + length l + 1) ls))
+        → SoundRead (read_on r d (λ d'. lines_read text d' (from + length l + 1) ls))
+    go (Ok e) k rest = rest (affected d e) (affected_in d e h k)
+    go (Err f) k rest = tt
 
-text_sound : (text : List ℕ) → Sound (text_read text).description
+text_sound : (text : List ℕ) {d : Description} → text_read text ≡ Ok d → Sound d
 unfolding text_read
-text_sound text = go (bad_from 0 text)
-  where
-    go : (v : Verdict) → Sound (clean_read v blank (lines_read text blank 0 (lines_of text))).description
-    go Good = lines_in text blank 0 (lines_of text) blank_sound
-    go (Bad f) = blank_sound
+text_sound text e =
+    subst SoundRead e (checked_sound (bad_from 0 text) (lines_read text blank 0 (lines_of text)) (lines_in text blank 0 (lines_of text) blank_sound))
 
-pub text_in : (text : List ℕ) → InRange (text_read text).description.settings
-text_in text = (text_sound text).ranged
+pub text_in : (text : List ℕ) {d : Description} → text_read text ≡ Ok d → InRange d.settings
+text_in text e = (text_sound text e).ranged
 
-pub text_few : (text : List ℕ) → leb (text_read text).description.count max_dependencies ≡ true
-text_few text = (text_sound text).few
+pub text_few : (text : List ℕ) {d : Description} → text_read text ≡ Ok d → leb d.count max_dependencies ≡ true
+text_few text e = (text_sound text e).few

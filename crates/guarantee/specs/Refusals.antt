@@ -1,12 +1,12 @@
 -- Trusted: W-201: what a refused load points at: the byte that decided, by number, and its line and column.
-use Rattle.std.specs.Prelude.{ℕ, ◌+◌, ◌-◌, ◌<◌, ◌≤◌, eqb, drop, get_or, length, Bool, ◌||◌, false, true, List, ◌≡◌}
+use Rattle.std.specs.Prelude.{ℕ, ◌+◌, ◌-◌, ◌<◌, ◌≤◌, eqb, drop, get_or, length, Bool, ◌||◌, false, true, List, Err, ◌≡◌}
 use Rattle.load_text.specs.Bytes.{is_bad, is_newline, is_property_byte, is_sign}
 use Rattle.load_text.specs.Lines.{line_of, name_end, white_end}
 use Rattle.load_text.specs.Offsets.{Stands, is_end}
 use Rattle.load_value.specs.Quotes.{closes}
 use Rattle.load_lent.specs.Parts.{text_at}
 use Rattle.load_lent.specs.Refusals.{has_byte}
-use Rattle.load_lent.specs.declared.Answer.TheVariants.{Refused}
+use Rattle.load_lent.specs.declared.Refused.{Refused}
 use Rattle.loader.specs.Load.{load}
 
 -- a line begins at an offset
@@ -68,4 +68,4 @@ pub record Told (text : List ℕ) (number line column : ℕ) : Type 0 where
 -- THE STATEMENT: every refusal of a load
 abbrev pub RefusalsPoint : Type 0
 RefusalsPoint =
-    (lent ends tokens : List ℕ) (k s l c : ℕ) → (load lent ends tokens).loaded.answer ≡ Refused k s l c → Told (text_at lent ends s) k l c
+    (lent ends tokens : List ℕ) (r : Refused) → (load lent ends tokens).loaded.answer ≡ Err r → Told (text_at lent ends r.service) r.number r.line r.column
