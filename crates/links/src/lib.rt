@@ -28,8 +28,8 @@ fn round(rows: &mut [u64], k: usize)
     ensures { Filled 0 (λ j. through k (get_or rows.old j 0) (get_or rows.old k 0)) (length rows.old) rows.new (length rows.old) }
 {
     let own = rows[k];
-    for i in 0..rows.len() {
-        rows[i] = joined(k, rows[i], own);
+    for row in rows.iter_mut() {
+        *row = joined(k, *row, own);
     }
 }
 
@@ -80,6 +80,7 @@ fn all_join(rows: &[u64]) -> bool
     ensures { AllSafe rows.now (length rows.now) result }
 {
     let n = rows.len();
+    // Nothing is allocated (docs/HOST.md, "Reentrancy"): the stack is an array with its depth beside it.
     let mut stack = [0u8; MAX_ROWS];
     let mut done: u64 = 0;
     let mut depth: usize = 0;

@@ -114,12 +114,12 @@ pub const COUNTS: usize = 2 * MAX_SERVICES;
 pub type Counts = [u64; COUNTS];
 
 // Puts how many tokens the two commands of each service have.
-fn write_counts(counts: &mut Counts, commands: [Commands; MAX_SERVICES])
-    ensures { counts.new ≡ counts_of counts.old commands }
+fn write_counts(counts: &mut Counts, commands: &[Commands; MAX_SERVICES])
+    ensures { counts.new ≡ counts_of counts.old commands.now }
 {
-    for s in 0..MAX_SERVICES {
-        counts[2 * s] = commands[s].start.count as u64;
-        counts[2 * s + 1] = commands[s].stop.count as u64;
+    for (s, kept) in commands.iter().enumerate() {
+        counts[2 * s] = kept.start.count as u64;
+        counts[2 * s + 1] = kept.stop.count as u64;
     }
 }
 
@@ -135,7 +135,7 @@ fn keep_loaded(
     let loaded = loaded?;
     write_table(table, loaded.table);
     write_state(state, State::fresh());
-    write_counts(counts, loaded.commands);
+    write_counts(counts, &loaded.commands);
     Ok(loaded.table.count as u64)
 }
 

@@ -125,11 +125,11 @@ fn put(numbers: &mut Numbers, at: usize, line: [u64; EACH])
 }
 
 // Writes a value to each place. What a read past the last would give does not matter.
-pub(crate) fn write_places<T: Encoded>(numbers: &mut Numbers, values: [T; MAX_SERVICES])
-    ensures { (d : T) → numbers.new ≡ all_written T.encoded numbers.old (λ s. get_or values s d) }
+pub(crate) fn write_places<T: Encoded>(numbers: &mut Numbers, values: &[T; MAX_SERVICES])
+    ensures { (d : T) → numbers.new ≡ all_written T.encoded numbers.old (λ s. get_or values.now s d) }
 {
-    for s in 0..MAX_SERVICES {
-        put(numbers, FRONT + EACH * s, values[s].encode());
+    for (s, value) in values.iter().enumerate() {
+        put(numbers, FRONT + EACH * s, value.encode());
     }
 }
 

@@ -29,7 +29,7 @@ pub fn write_state(numbers: &mut Numbers, x: State)
 {
     numbers[0] = x.clock;
     numbers[1] = 0;
-    write_places(numbers, x.records);
+    write_places(numbers, &x.records);
 }
 
 // The state that the numbers say.
@@ -48,7 +48,7 @@ pub fn write_table(numbers: &mut Numbers, t: Table)
 {
     numbers[0] = t.count as u64;
     numbers[1] = 0;
-    write_places(numbers, t.services);
+    write_places(numbers, &t.services);
 }
 
 // The table that the numbers say.

@@ -2,8 +2,8 @@
 use Rattle.links.proofs.Rounds.{rounding_none, rounding_more}
 use Rattle.links.proofs.round.Goals as goal
 
-pub loop-i-init : goal.loop-i-init
-loop-i-init c = search rounding_none
+pub loop-row-init : goal.loop-row-init
+loop-row-init c = search rounding_none
 
-pub loop-i-preserved : goal.loop-i-preserved
-loop-i-preserved c = search rounding_more
+pub loop-row-preserved : goal.loop-row-preserved
+loop-row-preserved c = search rounding_more
