@@ -11,12 +11,12 @@ use Rattle.loader.specs.declared.Loaded.{Loaded}
 use Rattle.plain_encoding.specs.Numbers.{state_numbers, table_numbers}
 use Rattle.plain.specs.Loads.{Kept, counts_of}
 
-module _ {o : Result Loaded Refused} (t x n : List ℕ) where
-  pub load_refused : {k : Refused} {r : Result ℕ Refused} → o ≡ Err k → r ≡ Err k → Kept o t x n r t x n
+module _ (o : Loaded) (t x n : List ℕ) where
+  pub load_refused : {k : Refused} {r : Result ℕ Refused} → o.answer ≡ Err k → r ≡ Err k → Kept o t x n r t x n
   load_refused e q = record { answer = rw e q; table = rw e; state = rw e; counts = rw e }
 
-  pub load_written : {v : Loaded} → o ≡ Ok v → {t₁ x₁ n₁ : List ℕ} {y : State} → t₁ ≡ table_numbers t v.table
-      → y ≡ fresh_state → x₁ ≡ state_numbers x y → n₁ ≡ counts_of n v.commands → Kept o t x n (Ok v.table.count) t₁ x₁ n₁
+  pub load_written : {u : Unit {0}} → o.answer ≡ Ok u → {t₁ x₁ n₁ : List ℕ} {y : State} → t₁ ≡ table_numbers t o.table
+      → y ≡ fresh_state → x₁ ≡ state_numbers x y → n₁ ≡ counts_of n o.commands → Kept o t x n (Ok o.table.count) t₁ x₁ n₁
   load_written e p f g w = record {
     answer = rw e;
     table = rw e p;
@@ -25,6 +25,6 @@ module _ {o : Result Loaded Refused} (t x n : List ℕ) where
   }
 
 -- from what the loader gave to its definition
-pub load_kept : {t x n : List ℕ} {o : Result Loaded Refused} {z : Outcome} {b t₁ x₁ n₁ : List ℕ} {r : Result ℕ Refused}
+pub load_kept : {t x n : List ℕ} {o : Loaded} {z : Outcome} {b t₁ x₁ n₁ : List ℕ} {r : Result ℕ Refused}
     → record { loaded = o; buffer = b } ≡ z → Kept o t x n r t₁ x₁ n₁ → Kept z.loaded t x n r t₁ x₁ n₁
 load_kept {t} {x} {n} {t₁ = t₁} {x₁ = x₁} {n₁ = n₁} {r = r} e h = subst (λ (z : Outcome). Kept z.loaded t x n r t₁ x₁ n₁) e h

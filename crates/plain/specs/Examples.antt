@@ -73,7 +73,7 @@ unfolding every check stand_as record_from settings_from is_record is_settings i
 nothing_told = (refl, refl, refl, refl, refl, refl, refl)
 
 -- a load's answers, and the counts of service 1: three tokens for its command, two for its stop-command
-pub load_told : (load_of (Ok (record { table = record { count = 2; services = [] }; commands = [] })) ≡ Ok 2)
-    × (load_of (Err (record { number = 15; service = 1; line = 3; column = 1 })) ≡ Err (record { number = 15; service = 1; line = 3; column = 1 }))
+pub load_told : (load_of (Ok tt) 2 ≡ Ok 2)
+    × (load_of (Err (record { number = 15; service = 1; line = 3; column = 1 })) 0 ≡ Err (record { number = 15; service = 1; line = 3; column = 1 }))
     × (counted (replicate 4 0) 1 (record { start = record { at = 0; count = 3 }; stop = record { at = 20; count = 2 } }) ≡ (0 ∷ 0 ∷ 3 ∷ 2 ∷ []))
 load_told = (refl, refl, refl)

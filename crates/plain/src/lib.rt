@@ -12,8 +12,7 @@ ghost use Rattle.plain.specs.Told.{checked, numbered, state_kept};
 ghost use Rattle.plain.specs.Loads.{counts_of, Kept};
 
 pub use forms::{Event, Handed};
-use load_lent::Refused;
-use loader::{Commands, Loaded};
+use loader::{Commands, Loaded, Refused};
 use plain_encoding::{
     Numbers, is_state, is_table, read_state, read_table, write_state, write_table,
 };
@@ -125,14 +124,14 @@ fn write_counts(counts: &mut Counts, commands: &[Commands; MAX_SERVICES])
 
 // Writes what an accepted load gave, and the fresh state, and tells how many services there are; a refused one leaves all as it was.
 fn keep_loaded(
-    loaded: Result<Loaded, Refused>,
+    loaded: Loaded,
     table: &mut Numbers,
     state: &mut Numbers,
     counts: &mut Counts,
 ) -> Result<u64, Refused>
     ensures { Kept loaded table.old state.old counts.old result table.new state.new counts.new }
 {
-    let loaded = loaded?;
+    loaded.answer?;
     write_table(table, loaded.table);
     write_state(state, State::fresh());
     write_counts(counts, &loaded.commands);
