@@ -53,9 +53,3 @@ offset_bounds-x-s c = let h = formed_few _ _ _ c.is_formed.ensures c.if-is_forme
 
 pub bounds-x-s : goal.bounds-x-s
 bounds-x-s c = let h = formed_few _ _ _ c.is_formed.ensures c.if-is_formed.true in search rules
-
-pub offset_bounds-x-s-then-r : goal.offset_bounds-x-s-then-r
-offset_bounds-x-s-then-r c = let h = formed_few _ _ _ c.is_formed.ensures c.if-is_formed.true in search rules
-
-pub bounds-x-s-then-r : goal.bounds-x-s-then-r
-bounds-x-s-then-r c = let h = formed_few _ _ _ c.is_formed.ensures c.if-is_formed.true in search rules
