@@ -3,12 +3,11 @@ use native.Mathlib.Nat.{le_trans}
 use mathlib.Core.Path.{◌≡◌}
 use lib.ListN.{length}
 use Rattle.base.proofs.Lists.{length_mapped}
-use Rattle.base.proofs.Loops.{folded_none}
 use Rattle.service.specs.Limits.{max_services}
 use Rattle.service.specs.Records.{record_at, with_record}
 use Rattle.service.proofs.Reading.{settings_read}
-use Rattle.engine_choice.proofs.Passes.{fitting_none, fitting_more, noting_more}
-use Rattle.engine.proofs.Running.{running_none, running_room, running_all, turn_inside, turn_quiet, turn_on}
+use Rattle.engine_choice.proofs.Passes.{fitting_more, noting_more}
+use Rattle.engine.proofs.Running.{running_none, running_all, turn_inside, turn_quiet, turn_on}
 use borrow.Author.Rules.{rules}
 use Rattle.engine.proofs.advance.Goals as goal
 
@@ -17,9 +16,6 @@ loop-k-init c =
     let z : length c.args.x.records ≡ max_services = search (rules, length_mapped) in
     running_none c.requires.0 z
 
-pub loop-i-init : goal.loop-i-init
-loop-i-init c = rw c.none-st.ensures folded_none
-
 pub loop-i-preserved : goal.loop-i-preserved
 unfolding record_at
 loop-i-preserved c =
@@ -27,9 +23,6 @@ loop-i-preserved c =
     -- the table has its places, so that what is read of one of them is the settings there
     let places : length c.args.t.services ≡ max_services = search (rules, length_mapped) in
     noting_more c.args.t c.loop-k.y c.loop-i.invariant more (settings_read c.args.t _ _ places (le_trans more c.requires.1)) c.noted-st.ensures
-
-pub loop-j-init : goal.loop-j-init
-loop-j-init c = search fitting_none
 
 pub loop-j-preserved : goal.loop-j-preserved
 unfolding record_at
@@ -70,9 +63,6 @@ offset_bounds-y-s-in-loop-k c =
 pub bounds-y-s-in-loop-k : goal.bounds-y-s-in-loop-k
 bounds-y-s-in-loop-k c =
     turn_inside c.loop-k.invariant c.requires.1 c.loop-j.invariant c.loop-j-test.false c.choose.ensures c.in-Some.is
-
-pub write_action-requires : goal.write_action-requires
-write_action-requires c = running_room c.loop-k.invariant c.requires.2 c.loop-k-test.true
 
 pub loop-k-preserved : goal.loop-k-preserved
 unfolding record_at with_record
