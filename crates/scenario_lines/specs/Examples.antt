@@ -6,13 +6,12 @@ use Rattle.service.specs.Numbers.{cause_number, phase_number}
 use Rattle.service.specs.declared.Cause.TheVariants.{Failed, Released}
 use Rattle.service.specs.declared.Phase.TheVariants.{Ending, Starting}
 use Rattle.load_text.specs.Strings.{bytes, same, index_from}
-use Rattle.scenario_words.specs.Numbers.{with_digit, number_from, number_of, number_to}
 use Rattle.scenario_words.specs.Pieces.{pieces_of, place_of}
 use Rattle.scenario_lines.specs.declared.Command.{Command}
 use Rattle.scenario_lines.specs.declared.Verb.{Verb}
 use Rattle.scenario_lines.specs.declared.Verb.TheVariants.{Next, Run, RunIn, Start, Stop, StopAll, End, Clock, Query, State, Show, SetClock, SetRecord, SetCount, SetTable, Load, LoadNone, LoadAt, Nothing, Begin, AddLine, AddPiece}
-use Rattle.scenario_lines.specs.Forms.{forms, named_verbs, verb_of, form_count, most_of, value_of, begins_as, fits_form, form_of, read_form}
-use Rattle.scenario_lines.specs.Lines.{are_numbers, read_load, read_parted, opening_of, read_any, has_needed, read_after, command_of}
+use Rattle.scenario_lines.specs.Forms.{forms, verb_of, form_count, most_of}
+use Rattle.scenario_lines.specs.Lines.{opening_of, command_of}
 
 pub forms_counted : length forms ≡ form_count
 unfolding bytes forms
@@ -40,7 +39,7 @@ pub verbs_stand : map verb_of (
     "load #65536" ∷
     "load #65536 -" ∷
     []) ≡ map (λ v. Some v) (Next ∷ Run ∷ RunIn ∷ Start ∷ Stop ∷ StopAll ∷ End ∷ Clock ∷ Query ∷ State ∷ Show ∷ SetClock ∷ SetRecord 0 ∷ SetRecord 11 ∷ SetCount ∷ SetTable 0 ∷ SetTable 7 ∷ Load ∷ LoadNone ∷ [])
-unfolding bytes index_from same forms named_verbs
+unfolding bytes index_from same forms
 verbs_stand = refl
 
 -- a line, whether a service was begun and a set loaded before it, and what it asks for
@@ -84,5 +83,5 @@ examples =
     []
 
 pub examples_hold : map (λ e. command_of (bytes e.line) e.begun e.loaded) examples ≡ map (λ e. e.is) examples
-unfolding every first bytes same named_verbs with_digit number_from number_of number_to pieces_of place_of forms most_of value_of begins_as fits_form form_of read_form are_numbers read_load read_parted opening_of read_any has_needed read_after command_of
+unfolding every first bytes same pieces_of place_of forms most_of opening_of
 examples_hold = refl

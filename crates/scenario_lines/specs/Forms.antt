@@ -62,7 +62,7 @@ unfolding bytes
 forms = map (λ f. bytes f.words) formed
 
 -- the verbs of the forms, in their order
-unfoldable pub named_verbs : List Verb
+abbrev pub named_verbs : List Verb
 named_verbs = map (λ f. f.verb) formed
 
 -- the verb of the lines that fit a form
@@ -88,28 +88,28 @@ most_of f =
     (unwrap_or (number_of (drop 1 f)) 18446744073709551615)
 
 -- the number that the word w is where a form has the word f: a number, or its place among the choices
-unfoldable pub value_of : List ℕ → List ℕ → Option ℕ
+abbrev pub value_of : List ℕ → List ℕ → Option ℕ
 value_of f w = pick (eqb (get_or f 0 0) 35) (number_to w (most_of f)) (place_of f 124 w)
 
 abbrev pub value_at : List ℕ → List ℕ → ℕ → Option ℕ
 value_at form l k = value_of (word_of form k) (word_of l k)
 
 -- the first n words of a line fit those of a form
-unfoldable pub begins_as : List ℕ → List ℕ → ℕ → Bool
+abbrev pub begins_as : List ℕ → List ℕ → ℕ → Bool
 begins_as form l n = every (λ k. is_some (value_at form l k)) n
 
-unfoldable pub fits_form : List ℕ → List ℕ → Bool
+abbrev pub fits_form : List ℕ → List ℕ → Bool
 fits_form form l = eqb (word_count l) (word_count form) && begins_as form l (word_count form)
 
 -- the place of the first of the forms that a line fits
-unfoldable pub form_of : List (List ℕ) → List ℕ → Option ℕ
+abbrev pub form_of : List (List ℕ) → List ℕ → Option ℕ
 form_of forms l =
     let n = length forms in
     let k = first (λ k. fits_form (get_or forms k []) l) n in
     read_if (ltb k n) k
 
 -- a line that fits a form, with the numbers of its second word and of its last; what is not there is 0
-unfoldable pub read_form : List ℕ → List ℕ → Verb → Command
+abbrev pub read_form : List ℕ → List ℕ → Verb → Command
 read_form form l verb =
     record {
       verb = verb;

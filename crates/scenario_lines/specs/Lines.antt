@@ -20,7 +20,7 @@ abbrev pub most_positions : ℕ
 most_positions = 2 * (max_services + 3)
 
 -- the n words from the third on are numbers
-unfoldable pub are_numbers : List ℕ → ℕ → Bool
+abbrev pub are_numbers : List ℕ → ℕ → Bool
 are_numbers l n = every (λ k. is_some (number_of (word_of l (k + 2)))) n
 
 -- "load ROOM P P ..", with the room and the number of positions
@@ -28,7 +28,7 @@ abbrev pub load_form : List ℕ
 unfolding bytes
 load_form = bytes "load #65536"
 
-unfoldable pub read_load : List ℕ → Option Command
+abbrev pub read_load : List ℕ → Option Command
 read_load l =
     let n = word_count l in
     pick (leb 3 n && leb n (most_positions + 2) && (begins_as load_form l 2 && are_numbers l (n - 2)))
@@ -39,7 +39,7 @@ abbrev pub read_found : List (List ℕ) → List ℕ → Option ℕ → Option C
 read_found fs l (Some k) = option_map (read_form (get_or fs k []) l) (slice_get named_verbs k)
 read_found fs l None = read_load l
 
-unfoldable pub read_parted : List (List ℕ) → List ℕ → Option Command
+abbrev pub read_parted : List (List ℕ) → List ℕ → Option Command
 read_parted forms l = read_found forms l (form_of forms l)
 
 -- "A line of no bytes, and a line that begins with `%`, says nothing"; "service NAME"; "|TEXT"; "!TEXT"
@@ -56,12 +56,12 @@ abbrev pub read_opened : List (List ℕ) → List ℕ → Option Verb → Option
 read_opened fs l (Some verb) = Some (plain verb)
 read_opened fs l None = read_parted fs l
 
-unfoldable pub read_any : List (List ℕ) → List ℕ → Option Command
+abbrev pub read_any : List (List ℕ) → List ℕ → Option Command
 read_any forms l = read_opened forms l (opening_of l)
 
 -- "a line that comes before what it needs (`|` or `!` before a `service`; `show`, `state`, `set`, `table` or a call with no
 -- set loaded)"
-unfoldable pub has_needed : Verb → Bool → Bool → Bool
+abbrev pub has_needed : Verb → Bool → Bool → Bool
 has_needed AddLine begun loaded = begun
 has_needed AddPiece begun loaded = begun
 has_needed Load begun loaded = true
@@ -76,9 +76,9 @@ abbrev pub needed : Bool → Bool → Option Command → Option Command
 needed begun loaded (Some c) = pick (has_needed c.verb begun loaded) (Some c) None
 needed begun loaded None = None
 
-unfoldable pub read_after : List (List ℕ) → List ℕ → Bool → Bool → Option Command
+abbrev pub read_after : List (List ℕ) → List ℕ → Bool → Bool → Option Command
 read_after forms l begun loaded = needed begun loaded (read_any forms l)
 
 -- what a line asks for, after a service was begun or not, and with a set loaded or not; there is none where it is bad
-unfoldable pub command_of : List ℕ → Bool → Bool → Option Command
+abbrev pub command_of : List ℕ → Bool → Bool → Option Command
 command_of l begun loaded = read_after forms l begun loaded

@@ -147,6 +147,7 @@ fn verb_at(place: usize) -> Option<Verb>
 }
 
 // The most that a number may be where a form has this word.
+#[tactic(auto, unfolding(load_text::specs::Strings::bytes, crate::specs::Forms::most_of))]
 fn most(form: &[u8]) -> u64
     ensures { result ≡ most_of form.now }
 {
@@ -218,6 +219,7 @@ fn are_numbers(line: &[u8], count: usize) -> bool
 }
 
 // A line that fits no form: a load with positions, or none.
+#[tactic(auto, unfolding(load_text::specs::Strings::bytes))]
 fn read_load(line: &[u8]) -> Option<Command>
     ensures { result ≡ read_load line.now }
 {
@@ -251,6 +253,7 @@ fn read_parted(forms: &[u8], line: &[u8]) -> Option<Command>
 }
 
 // What a line is that its first byte or word decides, or that has no bytes.
+#[tactic(auto, unfolding(load_text::specs::Strings::bytes, crate::specs::Lines::opening_of))]
 fn opening(line: &[u8]) -> Option<Verb>
     ensures { result ≡ opening_of line.now }
 {
@@ -301,6 +304,7 @@ fn read_after(forms: &[u8], line: &[u8], begun: bool, loaded: bool) -> Option<Co
 }
 
 // A line without its newline. There is none where it is bad: where it fits no form, or comes before what it needs.
+#[tactic(auto, unfolding(load_text::specs::Strings::bytes, scenario_words::specs::Pieces::pieces_of, crate::specs::Forms::forms))]
 pub fn read_line(line: &[u8], begun: bool, loaded: bool) -> Option<Command>
     ensures { result ≡ command_of line.now begun loaded }
 {

@@ -3,7 +3,6 @@ use Rattle.std.specs.Prelude.{ℕ, ◌+◌, List, [], ◌∷◌, ◌++◌, ◌�
 use Prim.Native.String.{String}
 use Rattle.load_text.specs.Strings.{bytes, part_of}
 use Rattle.load_text.specs.Lines.{line_of}
-use Rattle.scenario_words.specs.Numbers.{with_digit, number_from, number_of}
 use Rattle.scenario_words.specs.Pieces.{pieces_of}
 use Rattle.scenario_lines.specs.declared.Verb.TheVariants.{Load, LoadAt, Begin, AddLine, AddPiece}
 use Rattle.scenario_lines.specs.Lines.{most_positions}
@@ -40,7 +39,7 @@ pub two_lent :
     (with_positions (record { verb = LoadAt; first = 9; last = 2 }) (bytes "load 9 2 5") (replicate (most_positions + 4) 0))
     (record { verb = LoadAt; first = 9; last = 2 }) 1
     ≡ (2 ∷ 5 ∷ [])
-unfolding bytes part_of pieces_of with_digit number_from number_of
+unfolding bytes part_of pieces_of
 two_lent = refl
 
 -- a service past those that are kept is only counted, and has no text

@@ -1,3 +1,2 @@
--- The laws, each file after those that it cites.
+-- The laws.
 pub mod Splits
-pub mod Numbers

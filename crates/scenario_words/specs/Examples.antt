@@ -3,7 +3,7 @@ use Rattle.std.specs.Prelude.{ℕ, Option, Some, None, ◌≡◌, refl, List, []
 use Prim.Native.String.{String}
 use Rattle.base.specs.Folds.{first}
 use Rattle.load_text.specs.Strings.{bytes, same}
-use Rattle.scenario_words.specs.Numbers.{with_digit, number_from, number_of, number_to}
+use Rattle.scenario_words.specs.Numbers.{number_to}
 use Rattle.scenario_words.specs.Pieces.{pieces_of, place_of}
 
 -- a text and its pieces, separated by spaces
@@ -63,5 +63,5 @@ numbered =
     []
 
 pub numbered_hold : map (λ e. number_to (bytes e.word) e.most) numbered ≡ map (λ e. e.is) numbered
-unfolding bytes with_digit number_from number_of number_to
+unfolding bytes
 numbered_hold = refl

@@ -3,11 +3,10 @@ use Rattle.std.proofs.Common.{eqb, rules, tests}
 use Rattle.std.proofs.lemmas.Iterator.Search.{position_from_yields_List}
 use Rattle.std.proofs.lemmas.Iterator.Splits.{YieldsList-from_slice_split}
 use Rattle.scenario_words.proofs.Splits.{first_found}
-use Rattle.scenario_lines.specs.Forms.{fits_form, form_of}
+use Rattle.scenario_lines.specs.Forms.{fits_form}
 use Rattle.scenario_lines.proofs.form_of.Goals as goal
 
 pub returns : goal.returns
-unfolding form_of
 returns c =
     first_found 10 c.args.forms.now (λ f. fits_form f c.args.line.now)
     (position_from_yields_List (λ f. fits_form f c.args.line.now) _ _ c.position.result c.position.ensures.ran

@@ -13,5 +13,4 @@ got xs i None h = grind (arith, common_steps, gets)
 got xs i (Some x) h = grind (arith, common_steps, gets)
 
 pub returns : goal.returns
-unfolding named_verbs
 returns c = c.copied.ensures ∙ got named_verbs c.args.place c.get.result c.get.ensures.lookup
