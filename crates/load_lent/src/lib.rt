@@ -1,8 +1,9 @@
 // A lent set: the names and texts of its services in one run of bytes, with the positions where they end. Numbers 2 to 5.
 #![tactic(auto)]
 
-ghost use Rattle.std.specs.Prelude.{◌≡◌, ◌≤◌, ◌/◌, length, get_or};
-ghost use Rattle.load_lent.specs.Parts.{service_count, within, positioned, name_start, name_at, text_at};
+ghost use Rattle.std.specs.Prelude.{◌≡◌, get_or};
+ghost use Rattle.load_lent.specs.Parts.{within, positioned, name_at};
+ghost use Rattle.load_lent.specs.Lents.{names_of, services_of, texts_of};
 ghost use Rattle.load_lent.specs.Checks.{find, found, names_from, sizes_from};
 ghost use Rattle.load_lent.specs.Refusals.{bare, refused_in};
 
@@ -71,7 +72,7 @@ pub struct Lent<'a, 'e> {
 impl<'a> Lent<'a, '_> {
     // The services, counted as whole pairs of positions.
     pub fn count(self) -> usize
-        ensures { result ≡ service_count self.entry.ends.now }
+        ensures { result ≡ services_of self.entry }
     {
         self.ends.len() / 2
     }
@@ -100,7 +101,7 @@ impl<'a> Lent<'a, '_> {
 
     // The name of service j; past the last service none.
     pub fn name(self, j: usize) -> &'a [u8]
-        ensures { result.now ≡ name_at self.entry.bytes.now self.entry.ends.now j }
+        ensures { result.now ≡ names_of self.entry j }
     {
         if self.count() < j {
             return &[];
@@ -111,7 +112,7 @@ impl<'a> Lent<'a, '_> {
 
     // The text of service j; past the last service none.
     pub fn text(self, j: usize) -> &'a [u8]
-        ensures { result.now ≡ text_at self.entry.bytes.now self.entry.ends.now j }
+        ensures { result.now ≡ texts_of self.entry j }
     {
         if self.count() <= j {
             return &[];
@@ -121,21 +122,21 @@ impl<'a> Lent<'a, '_> {
 
     // The service of a name among the first n.
     fn find_among(self, n: usize, name: &[u8]) -> Option<usize>
-        ensures { result ≡ found n (find (name_at self.entry.bytes.now self.entry.ends.now) n name.now) }
+        ensures { result ≡ found n (find (names_of self.entry) n name.now) }
     {
         (0..n).find(|&i| same_bytes(name, self.name(i)))
     }
 
     // The service of a name among the first n; past the services lent there is nothing to look at.
     pub fn find(self, n: usize, name: &[u8]) -> Option<usize>
-        ensures { let few = within n self.entry.ends.now in result ≡ found few (find (name_at self.entry.bytes.now self.entry.ends.now) few name.now) }
+        ensures { let few = within n self.entry.ends.now in result ≡ found few (find (names_of self.entry) few name.now) }
     {
         self.find_among(n.min(self.count()), name)
     }
 
     // Numbers 3 and 4, for each name in turn.
     pub fn check_names(self) -> Result<(), Refused>
-        ensures { result ≡ names_from (name_at self.entry.bytes.now self.entry.ends.now) 0 (service_count self.entry.ends.now) }
+        ensures { result ≡ names_from (names_of self.entry) 0 (services_of self.entry) }
     {
         for j in 0..self.count() {
             let name = self.name(j);
@@ -151,7 +152,7 @@ impl<'a> Lent<'a, '_> {
 
     // Number 5, over all texts.
     pub fn check_sizes(self) -> Result<(), Refused>
-        ensures { result ≡ sizes_from (text_at self.entry.bytes.now self.entry.ends.now) 0 0 (service_count self.entry.ends.now) }
+        ensures { result ≡ sizes_from (texts_of self.entry) 0 0 (services_of self.entry) }
     {
         let mut total = 0;
         for j in 0..self.count() {

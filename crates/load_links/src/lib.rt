@@ -1,14 +1,15 @@
 // The dependencies of a set resolved to sets of services, the settings of each service, and the search for a cycle. Numbers 15 and 16.
 #![tactic(auto)]
 
-ghost use Rattle.std.specs.Prelude.{MatchResult, ◌≡◌, ◌≤◌, ◌<◌, ◌/◌, leb, length};
+ghost use Rattle.std.specs.Prelude.{MatchResult, ◌≡◌, ◌≤◌, ◌<◌, leb};
 ghost use Rattle.base.specs.Folds.{pick, first};
 ghost use Rattle.base.specs.Sets.{has_bit};
 ghost use Rattle.base.specs.Links.{reach};
 ghost use Rattle.links.specs.Rows.{rows_as};
 ghost use Rattle.service.specs.Limits.{max_services};
 ghost use Rattle.load_description.specs.Settings.{word_at};
-ghost use Rattle.load_lent.specs.Parts.{service_count, name_at, text_at};
+ghost use Rattle.load_lent.specs.Parts.{service_count};
+ghost use Rattle.load_lent.specs.Lents.{names_of, services_of, texts_of};
 ghost use Rattle.load_lent.specs.Refusals.{bare};
 ghost use Rattle.load_lent.specs.Checks.{find, found};
 ghost use Rattle.load_links.specs.Links.{with_link, links_in, settings_of, services_from, services_in, lowest_cyclic};
@@ -62,7 +63,7 @@ pub struct Set<'a, 'e> {
 impl<'a, 'e> Set<'a, 'e> {
     // More services than there are places are refused (1).
     pub fn new(lent: Lent<'a, 'e>) -> Result<Set<'a, 'e>, Refused>
-        ensures { MatchResult result (λ s. s.lent ≡ lent.entry) (λ r. (r ≡ bare 1 0) × (max_services < service_count lent.entry.ends.now)) }
+        ensures { MatchResult result (λ s. s.lent ≡ lent.entry) (λ r. (r ≡ bare 1 0) × (max_services < services_of lent.entry)) }
     {
         if MAX_SERVICES < lent.count() {
             return Err(Refused::bare(1, 0));
@@ -73,14 +74,14 @@ impl<'a, 'e> Set<'a, 'e> {
 
 // The service that the word at an offset of a text names.
 fn find_word(lent: Lent, text: &[u8], at: usize) -> Option<usize>
-    ensures { let n = service_count lent.entry.ends.now in result ≡ found n (find (name_at lent.entry.bytes.now lent.entry.ends.now) n (word_at text.now at)) }
+    ensures { let n = services_of lent.entry in result ≡ found n (find (names_of lent.entry) n (word_at text.now at)) }
 {
     lent.find(lent.count(), Word::at(text, at).bytes())
 }
 
 // The dependencies of one description. One that says that it has more than there are places is not looked through.
 fn resolve(set: Set, text: &[u8], d: Description) -> Result<Links, Fault>
-    ensures { result ≡ links_in (name_at set.entry.lent.bytes.now set.entry.lent.ends.now) (service_count set.entry.lent.ends.now) text.now d }
+    ensures { result ≡ links_in (names_of set.entry.lent) (services_of set.entry.lent) text.now d }
 {
     if MAX_DEPENDENCIES < d.count {
         return Err(Fault {
@@ -119,7 +120,7 @@ fn make(
     ds: &[Description; MAX_SERVICES],
     mut services: [Settings; MAX_SERVICES],
 ) -> Result<[Settings; MAX_SERVICES], Refused>
-    ensures { result ≡ services_from (name_at set.entry.lent.bytes.now set.entry.lent.ends.now) (text_at set.entry.lent.bytes.now set.entry.lent.ends.now) ds.now (service_count set.entry.lent.ends.now) services 0 (service_count set.entry.lent.ends.now) }
+    ensures { result ≡ services_from (names_of set.entry.lent) (texts_of set.entry.lent) ds.now (services_of set.entry.lent) services 0 (services_of set.entry.lent) }
 {
     for j in 0..set.lent.count() {
         let text = set.lent.text(j);
@@ -134,7 +135,7 @@ pub fn make_services(
     lent: Lent,
     ds: &[Description; MAX_SERVICES],
 ) -> Result<[Settings; MAX_SERVICES], Refused>
-    ensures { result ≡ services_in (name_at lent.entry.bytes.now lent.entry.ends.now) (text_at lent.entry.bytes.now lent.entry.ends.now) ds.now (service_count lent.entry.ends.now) }
+    ensures { result ≡ services_in (names_of lent.entry) (texts_of lent.entry) ds.now (services_of lent.entry) }
 {
     let set = Set::new(lent)?;
     make(set, ds, [Settings::default(); MAX_SERVICES])

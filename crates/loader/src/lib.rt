@@ -5,8 +5,7 @@ mod tokens;
 
 ghost use Rattle.std.specs.Prelude.{◌≡◌, length};
 ghost use Rattle.std.proofs.lemmas.List.Edits.{sets};
-ghost use Rattle.service.specs.Settings.{no_services};
-ghost use Rattle.load_lent.specs.Parts.{name_at, service_count, text_at};
+ghost use Rattle.load_lent.specs.Lents.{services_of, texts_of};
 ghost use Rattle.loader.specs.Short.{Short};
 ghost use Rattle.loader.specs.Tokens.{bytes_from, commands_from, no_commands};
 ghost use Rattle.loader.specs.Texts.{descriptions_from, no_descriptions};
@@ -57,7 +56,7 @@ fn read_into(
     set: Set,
     mut ds: [Description; MAX_SERVICES],
 ) -> Result<[Description; MAX_SERVICES], Refused>
-    ensures { result ≡ descriptions_from (text_at set.entry.lent.bytes.now set.entry.lent.ends.now) ds 0 (service_count set.entry.lent.ends.now) }
+    ensures { result ≡ descriptions_from (texts_of set.entry.lent) ds 0 (services_of set.entry.lent) }
 {
     for j in 0..set.lent.count() {
         let text = set.lent.text(j);
@@ -67,7 +66,7 @@ fn read_into(
 }
 
 fn read_texts(set: Set) -> Result<[Description; MAX_SERVICES], Refused>
-    ensures { result ≡ descriptions_from (text_at set.entry.lent.bytes.now set.entry.lent.ends.now) no_descriptions 0 (service_count set.entry.lent.ends.now) }
+    ensures { result ≡ descriptions_from (texts_of set.entry.lent) no_descriptions 0 (services_of set.entry.lent) }
 {
     read_into(set, [Description::blank(); MAX_SERVICES])
 }
@@ -78,8 +77,8 @@ fn place_all(
     ds: &[Description; MAX_SERVICES],
     mut commands: [Commands; MAX_SERVICES],
 ) -> Placed
-    requires { Short (text_at set.lent.bytes.now set.lent.ends.now) (service_count set.lent.ends.now) }
-    ensures { let text = text_at set.entry.lent.bytes.now set.entry.lent.ends.now in let n = service_count set.entry.lent.ends.now in result ≡ record { commands = commands_from text ds.now 0 commands 0 n; room = length (bytes_from text ds.now 0 n) } }
+    requires { Short (texts_of set.lent) (services_of set.lent) }
+    ensures { let text = texts_of set.entry.lent in let n = services_of set.entry.lent in result ≡ record { commands = commands_from text ds.now 0 commands 0 n; room = length (bytes_from text ds.now 0 n) } }
 {
     let mut room = 0;
     for j in 0..set.lent.count() {
@@ -97,8 +96,8 @@ fn write_all(
     commands: &[Commands; MAX_SERVICES],
     tokens: &mut [u8],
 )
-    requires { commands.now ≡ commands_from (text_at set.lent.bytes.now set.lent.ends.now) ds.now 0 no_commands 0 (service_count set.lent.ends.now) }
-    ensures { tokens.new ≡ sets tokens.old 0 (bytes_from (text_at set.entry.lent.bytes.now set.entry.lent.ends.now) ds.now 0 (service_count set.entry.lent.ends.now)) }
+    requires { commands.now ≡ commands_from (texts_of set.lent) ds.now 0 no_commands 0 (services_of set.lent) }
+    ensures { tokens.new ≡ sets tokens.old 0 (bytes_from (texts_of set.entry.lent) ds.now 0 (services_of set.entry.lent)) }
 {
     for j in 0..set.lent.count() {
         write_service(set.lent.text(j), &ds[j], commands[j], tokens);
@@ -112,8 +111,8 @@ fn store(
     services: [Settings; MAX_SERVICES],
     tokens: &mut [u8],
 ) -> Result<Loaded, Refused>
-    requires { Short (text_at set.lent.bytes.now set.lent.ends.now) (service_count set.lent.ends.now) }
-    ensures { ◌≡◌ {A = Outcome} (outcome tokens.new result) (stored (text_at set.entry.lent.bytes.now set.entry.lent.ends.now) tokens.old (service_count set.entry.lent.ends.now) ds.now services) }
+    requires { Short (texts_of set.lent) (services_of set.lent) }
+    ensures { ◌≡◌ {A = Outcome} (outcome tokens.new result) (stored (texts_of set.entry.lent) tokens.old (services_of set.entry.lent) ds.now services) }
 {
     let placed = place_all(set, ds, [Commands::NONE; MAX_SERVICES]);
     let room = placed.room;
