@@ -36,7 +36,7 @@ use Rattle.rules.proofs.Runs.{steps_within}
 use Rattle.rules.proofs.Resting.{rests_everywhere, steps_quiet}
 use Rattle.engine_records.specs.Sound.{sound}
 use Rattle.engine_choice.specs.declared.standing.Standing.{Standing}
-use Rattle.engine_choice.specs.declared.Fits.{Fits}
+use Rattle.engine_choice.specs.declared.PerRule.{PerRule}
 use Rattle.engine_choice.specs.Fits.{choice_from}
 use Rattle.engine_choice.proofs.Passes.{Fitting, choice_made, user_gathered}
 use Rattle.engine.specs.declared.Progress.{Progress}
@@ -142,7 +142,7 @@ module _ {t : Table} {x : State} {s a : List ℕ} {m : ℕ} where
 
 -- one turn of the loop: the passes have gathered st and f over the services of y, and c is what the code chose from them
 module _
-    {t : Table} {x : State} {s a : List ℕ} {m : ℕ} {s' a' : List ℕ} {y : State} {last : Action} {k : ℕ} {st : Standing} {f : Fits} {j : ℕ} {c : Choice}
+    {t : Table} {x : State} {s a : List ℕ} {m : ℕ} {s' a' : List ℕ} {y : State} {last : Action} {k : ℕ} {st : Standing} {f : PerRule ℕ} {j : ℕ} {c : Choice}
     (h : Running t x s a m s' a' y last k) (few : t.count ≤ max_services) (g : Fitting t y st f j) (z : t.count ≤ j)
     (e : c ≡ choice_from f t.count) where
   pub turn_inside : {i : Rule} {d : ℕ} → c ≡ Some (i, d) → d < max_services

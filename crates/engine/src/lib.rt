@@ -14,7 +14,7 @@ ghost use Rattle.engine.specs.Quiet.{rested_within, Advanced, Room};
 use base::overlaps;
 use engine_actions::hand_out;
 pub use engine_calls::{clock, end, query, start, stop, stop_all};
-use engine_choice::{Fits, Standing, choose, fit, noted};
+use engine_choice::{PerRule, Standing, choose};
 use engine_records::leave;
 use engine_wellformed::is_formed;
 pub use service::{
@@ -38,6 +38,7 @@ pub struct Progress {
 }
 
 // Writes an action to the place k of a run: its service to the one slice, its number to the other.
+// Two slices: paper 01's run "fills two lent number slices, service and action".
 fn write_action(k: usize, a: Action, services: &mut [u64], actions: &mut [u64])
     requires { Room (suc k) services.old actions.old }
     ensures services_after { services.new ≡ set services.old k (action_service a) }
@@ -49,6 +50,7 @@ fn write_action(k: usize, a: Action, services: &mut [u64], actions: &mut [u64])
 
 // Hands out actions until all is quiet, but no more than the limit, from a state that has passed list 24. Both passes of a step stand
 // here, and the step changes one record in place: a function of its own for a step or a pass would copy table and state each time.
+// Two parameters: the host keeps the table, and lends with it the state of the call before (docs/HOST.md, demand 3).
 fn advance(t: Table, x: State, limit: usize, services: &mut [u64], actions: &mut [u64]) -> Progress
     requires { (formed t x ≡ true) × (t.count ≤ max_services) × Room limit services.old actions.old }
     ensures { Advanced t x limit services.old actions.old result services.new actions.new }
@@ -58,11 +60,11 @@ fn advance(t: Table, x: State, limit: usize, services: &mut [u64], actions: &mut
     for k in 0..limit {
         let mut st = Standing::none();
         for i in 0..t.count {
-            st = noted(st, t.services[i], y.records[i], i);
+            st = st.noted(t.services[i], y.records[i], i);
         }
-        let mut f = Fits::none();
+        let mut f = PerRule::none();
         for j in 0..t.count {
-            f = fit(f, y.clock, t.services[j], y.records[j], st, j);
+            f = f.fit(y.clock, t.services[j], y.records[j], st, j);
         }
         let Some((rule, s)) = choose(f, t.count) else {
             return Progress {

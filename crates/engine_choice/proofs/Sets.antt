@@ -24,7 +24,7 @@ use Rattle.engine_choice.specs.declared.standing.Standing.{Standing}
 use Rattle.engine_choice.specs.Standing.{standing}
 use Rattle.engine_choice.specs.Fitting.{lose_by, abandon_by, settle_by, wake_by, release_by, begin_by, end_by, expire_by}
 use Rattle.engine_choice.proofs.Gathered.{lost_is, user_is, barred_is, unready_is, blocked_is, needed_is, called_is}
-use Rattle.engine_choice.specs.declared.Fits.{Fits}
+use Rattle.engine_choice.specs.declared.PerRule.{PerRule}
 use Rattle.engine_choice.specs.Fits.{no_fits, fitting, fitted, try_in, choice_from}
 use Rattle.engine_choice.specs.Lost.{lost_by_user}
 
@@ -92,7 +92,7 @@ module _ (t : Table) (x : State) (l : t.count ≤ 64) where
   by_as End s = rw (on_blocked s)
   by_as Expire s = refl
 
-  abbrev set_of : Rule → Fits → ℕ
+  abbrev set_of : Rule → PerRule ℕ → ℕ
   set_of Lose f = f.lose
   set_of Abandon f = f.abandon
   set_of Settle f = f.settle
@@ -112,7 +112,7 @@ module _ (t : Table) (x : State) (l : t.count ≤ 64) where
   set_none_lem End = refl
   set_none_lem Expire = refl
 
-  set_more : (k : Rule) (f : Fits) (s : ℕ) → set_of k (fitting t x here f s) ≡ bit_or (set_of k f) (single s (ltb s 64 && by k s))
+  set_more : (k : Rule) (f : PerRule ℕ) (s : ℕ) → set_of k (fitting t x here f s) ≡ bit_or (set_of k f) (single s (ltb s 64 && by k s))
   set_more Lose f s = refl
   set_more Abandon f s = refl
   set_more Settle f s = refl

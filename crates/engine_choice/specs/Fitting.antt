@@ -8,7 +8,7 @@ use Rattle.service.specs.declared.Record.{Record}
 use Rattle.rules.specs.Dependencies.{closing}
 use Rattle.rules.specs.Rules.{running, nothing_to_end, due}
 use Rattle.engine_choice.specs.declared.standing.Standing.{Standing}
-use Rattle.engine_choice.specs.declared.standing.Which.{Which}
+use Rattle.engine_choice.specs.declared.PerRule.{PerRule}
 
 abbrev pub lose_by : Settings → Record → Standing → Bool
 lose_by v r st = running r && overlap v.hard st.lost
@@ -37,7 +37,7 @@ end_by r st s = closing r && not (has_bit st.blocked s)
 abbrev pub expire_by : ℕ → Record → Bool
 expire_by now r = due now r.deadline && (is_starting r.phase || is_ending r.phase && not r.killed)
 
-abbrev pub which_by : ℕ → Settings → Record → Standing → ℕ → Which
+abbrev pub which_by : ℕ → Settings → Record → Standing → ℕ → PerRule Bool
 which_by now v r st s = record {
   lose = lose_by v r st;
   abandon = abandon_by v r st;

@@ -10,27 +10,26 @@ ghost use Rattle.engine_choice.specs.Fits.{no_fits, added_in, fitted_in, choice_
 use base::{lowest, single_of};
 use rules::Rule;
 use service::{Record, Settings};
-pub use standing::{Standing, noted};
-use standing::{Which, which_fit};
+pub use standing::Standing;
 
-// For each rule the services that it fits.
+// A value for each rule: whether it fits a service, or the set of the services that it fits.
 #[derive(Clone, Copy)]
-pub struct Fits {
-    pub lose: u64,
-    pub abandon: u64,
-    pub settle: u64,
-    pub wake: u64,
-    pub release: u64,
-    pub begin: u64,
-    pub end: u64,
-    pub expire: u64,
+pub struct PerRule<T> {
+    pub lose: T,
+    pub abandon: T,
+    pub settle: T,
+    pub wake: T,
+    pub release: T,
+    pub begin: T,
+    pub end: T,
+    pub expire: T,
 }
 
-impl Fits {
-    pub fn none() -> Fits
+impl PerRule<u64> {
+    pub fn none() -> PerRule<u64>
         ensures { result ≡ no_fits }
     {
-        Fits {
+        PerRule {
             lose: 0,
             abandon: 0,
             settle: 0,
@@ -41,33 +40,33 @@ impl Fits {
             expire: 0,
         }
     }
-}
 
-fn added(f: Fits, w: Which, s: usize) -> Fits
-    ensures { result ≡ added_in f w s }
-{
-    Fits {
-        lose: f.lose | single_of(s, w.lose),
-        abandon: f.abandon | single_of(s, w.abandon),
-        settle: f.settle | single_of(s, w.settle),
-        wake: f.wake | single_of(s, w.wake),
-        release: f.release | single_of(s, w.release),
-        begin: f.begin | single_of(s, w.begin),
-        end: f.end | single_of(s, w.end),
-        expire: f.expire | single_of(s, w.expire),
+    fn added(self, w: PerRule<bool>, s: usize) -> PerRule<u64>
+        ensures { result ≡ added_in self w s }
+    {
+        PerRule {
+            lose: self.lose | single_of(s, w.lose),
+            abandon: self.abandon | single_of(s, w.abandon),
+            settle: self.settle | single_of(s, w.settle),
+            wake: self.wake | single_of(s, w.wake),
+            release: self.release | single_of(s, w.release),
+            begin: self.begin | single_of(s, w.begin),
+            end: self.end | single_of(s, w.end),
+            expire: self.expire | single_of(s, w.expire),
+        }
+    }
+
+    // The sets with service s as well.
+    pub fn fit(self, now: u64, v: Settings, r: Record, st: Standing, s: usize) -> PerRule<u64>
+        ensures { result ≡ fitted_in self now v r st s }
+    {
+        self.added(st.which_fit(now, v, r, s), s)
     }
 }
 
-// The sets with service s as well.
-pub fn fit(f: Fits, now: u64, v: Settings, r: Record, st: Standing, s: usize) -> Fits
-    ensures { result ≡ fitted_in f now v r st s }
-{
-    let w = which_fit(now, v, r, st, s);
-    added(f, w, s)
-}
-
 // The first rule with any service that it fits, in paper 01's order, and the lowest such service.
-pub fn choose(f: Fits, n: usize) -> Option<(Rule, usize)>
+// A loop: lowest gives n for none, so find_map would need the same test in a closure and is no plainer.
+pub fn choose(f: PerRule<u64>, n: usize) -> Option<(Rule, usize)>
     ensures { result ≡ choice_from f n }
 {
     let tries = [

@@ -4,6 +4,7 @@ ghost use Rattle.rules.specs.Rules.{nothing_to_end, due};
 ghost use Rattle.engine_choice.specs.Standing.{nowhere, noted_in};
 ghost use Rattle.engine_choice.specs.Fitting.{lose_by, abandon_by, settle_by, wake_by, release_by, begin_by, end_by, expire_by, which_by};
 
+use crate::PerRule;
 use base::{has_bit, kept_if, overlaps, single_of};
 use engine_record_tests::{is_barred, is_closing, is_running, is_serving};
 use service::{Cause, Form, Phase, Record, Settings};
@@ -26,54 +27,7 @@ pub struct Standing {
     pub called: u64,
 }
 
-// Which of the rules fit a service.
-#[derive(Clone, Copy)]
-pub struct Which {
-    pub lose: bool,
-    pub abandon: bool,
-    pub settle: bool,
-    pub wake: bool,
-    pub release: bool,
-    pub begin: bool,
-    pub end: bool,
-    pub expire: bool,
-}
-
-impl Standing {
-    pub fn none() -> Standing
-        ensures { result ≡ nowhere }
-    {
-        Standing {
-            lost: 0,
-            user: 0,
-            barred: 0,
-            unready: 0,
-            blocked: 0,
-            needed: 0,
-            called: 0,
-        }
-    }
-}
-
-// The sets with service i as well.
-pub fn noted(st: Standing, v: Settings, r: Record, i: usize) -> Standing
-    ensures { result ≡ noted_in st v r i }
-{
-    let all = v.all_links();
-    let p = r.phase;
-    let serving = is_serving(r);
-    let barred = is_barred(r);
-    Standing {
-        lost: st.lost | single_of(i, !serving),
-        user: st.user | single_of(i, !serving & (r.cause == Cause::User)),
-        barred: st.barred | single_of(i, barred),
-        unready: st.unready | single_of(i, !(serving | barred)),
-        blocked: st.blocked | kept_if(p.is_active(), v.hard),
-        needed: st.needed | kept_if(p != Phase::Down, all),
-        called: st.called | kept_if(p == Phase::Waiting, all),
-    }
-}
-
+// Whether ending the service takes no action.
 fn nothing_to_end(f: Form, command: bool, live: bool) -> bool
     ensures { result ≡ nothing_to_end f command live }
 {
@@ -91,60 +45,6 @@ fn is_due(now: u64, d: Option<u64>) -> bool
     d.is_some_and(|e| e <= now)
 }
 
-// Rule 1.
-fn fits_lose(v: Settings, r: Record, st: Standing) -> bool
-    ensures { result ≡ lose_by v r st }
-{
-    is_running(r) & overlaps(v.hard, st.lost)
-}
-
-// Rule 2.
-fn fits_abandon(v: Settings, r: Record, st: Standing) -> bool
-    ensures { result ≡ abandon_by v r st }
-{
-    (r.phase == Phase::Waiting) & overlaps(v.strong_links(), st.barred)
-}
-
-// Rule 3.
-fn fits_settle(v: Settings, r: Record, st: Standing, s: usize) -> bool
-    ensures { result ≡ settle_by v r st s }
-{
-    is_closing(r) & !has_bit(st.blocked, s) & nothing_to_end(v.form(), v.has_stop, r.live)
-}
-
-// Rule 4.
-fn fits_wake(r: Record, st: Standing, s: usize) -> bool
-    ensures { result ≡ wake_by r st s }
-{
-    (r.phase == Phase::Down) & !r.aside & (r.wanted | has_bit(st.called, s))
-}
-
-// Rule 5.
-fn fits_release(r: Record, st: Standing, s: usize) -> bool
-    ensures { result ≡ release_by r st s }
-{
-    matches!(r.phase, Phase::Waiting | Phase::Starting | Phase::Up)
-        & (r.cause == Cause::None)
-        & !(r.wanted | has_bit(st.needed, s))
-}
-
-// Rule 6.
-fn fits_begin(now: u64, v: Settings, r: Record, st: Standing) -> bool
-    ensures { result ≡ begin_by now v r st }
-{
-    (r.phase == Phase::Waiting)
-        & (r.not_before <= now)
-        & !overlaps(v.strong_links(), st.lost)
-        & !overlaps(v.soft, st.unready)
-}
-
-// Rule 7.
-fn fits_end(r: Record, st: Standing, s: usize) -> bool
-    ensures { result ≡ end_by r st s }
-{
-    is_closing(r) & !has_bit(st.blocked, s)
-}
-
 // Rule 8.
 fn fits_expire(now: u64, r: Record) -> bool
     ensures { result ≡ expire_by now r }
@@ -153,18 +53,107 @@ fn fits_expire(now: u64, r: Record) -> bool
     is_due(now, r.deadline) & ((p == Phase::Starting) | ((p == Phase::Ending) & !r.killed))
 }
 
-// Which of the rules fit the service s.
-pub(crate) fn which_fit(now: u64, v: Settings, r: Record, st: Standing, s: usize) -> Which
-    ensures { result ≡ which_by now v r st s }
-{
-    Which {
-        lose: fits_lose(v, r, st),
-        abandon: fits_abandon(v, r, st),
-        settle: fits_settle(v, r, st, s),
-        wake: fits_wake(r, st, s),
-        release: fits_release(r, st, s),
-        begin: fits_begin(now, v, r, st),
-        end: fits_end(r, st, s),
-        expire: fits_expire(now, r),
+impl Standing {
+    pub fn none() -> Standing
+        ensures { result ≡ nowhere }
+    {
+        Standing {
+            lost: 0,
+            user: 0,
+            barred: 0,
+            unready: 0,
+            blocked: 0,
+            needed: 0,
+            called: 0,
+        }
+    }
+
+    // The sets with service i as well.
+    pub fn noted(self, v: Settings, r: Record, i: usize) -> Standing
+        ensures { result ≡ noted_in self v r i }
+    {
+        let all = v.all_links();
+        let p = r.phase;
+        let serving = is_serving(r);
+        let barred = is_barred(r);
+        Standing {
+            lost: self.lost | single_of(i, !serving),
+            user: self.user | single_of(i, !serving & (r.cause == Cause::User)),
+            barred: self.barred | single_of(i, barred),
+            unready: self.unready | single_of(i, !(serving | barred)),
+            blocked: self.blocked | kept_if(p.is_active(), v.hard),
+            needed: self.needed | kept_if(p != Phase::Down, all),
+            called: self.called | kept_if(p == Phase::Waiting, all),
+        }
+    }
+
+    // Rule 1.
+    fn fits_lose(self, v: Settings, r: Record) -> bool
+        ensures { result ≡ lose_by v r self }
+    {
+        is_running(r) & overlaps(v.hard, self.lost)
+    }
+
+    // Rule 2.
+    fn fits_abandon(self, v: Settings, r: Record) -> bool
+        ensures { result ≡ abandon_by v r self }
+    {
+        (r.phase == Phase::Waiting) & overlaps(v.strong_links(), self.barred)
+    }
+
+    // Rule 3.
+    fn fits_settle(self, v: Settings, r: Record, s: usize) -> bool
+        ensures { result ≡ settle_by v r self s }
+    {
+        is_closing(r) & !has_bit(self.blocked, s) & nothing_to_end(v.form(), v.has_stop, r.live)
+    }
+
+    // Rule 4.
+    fn fits_wake(self, r: Record, s: usize) -> bool
+        ensures { result ≡ wake_by r self s }
+    {
+        (r.phase == Phase::Down) & !r.aside & (r.wanted | has_bit(self.called, s))
+    }
+
+    // Rule 5.
+    fn fits_release(self, r: Record, s: usize) -> bool
+        ensures { result ≡ release_by r self s }
+    {
+        matches!(r.phase, Phase::Waiting | Phase::Starting | Phase::Up)
+            & (r.cause == Cause::None)
+            & !(r.wanted | has_bit(self.needed, s))
+    }
+
+    // Rule 6.
+    fn fits_begin(self, now: u64, v: Settings, r: Record) -> bool
+        ensures { result ≡ begin_by now v r self }
+    {
+        (r.phase == Phase::Waiting)
+            & (r.not_before <= now)
+            & !overlaps(v.strong_links(), self.lost)
+            & !overlaps(v.soft, self.unready)
+    }
+
+    // Rule 7.
+    fn fits_end(self, r: Record, s: usize) -> bool
+        ensures { result ≡ end_by r self s }
+    {
+        is_closing(r) & !has_bit(self.blocked, s)
+    }
+
+    // Which of the rules fit the service s.
+    pub(crate) fn which_fit(self, now: u64, v: Settings, r: Record, s: usize) -> PerRule<bool>
+        ensures { result ≡ which_by now v r self s }
+    {
+        PerRule {
+            lose: self.fits_lose(v, r),
+            abandon: self.fits_abandon(v, r),
+            settle: self.fits_settle(v, r, s),
+            wake: self.fits_wake(r, s),
+            release: self.fits_release(r, s),
+            begin: self.fits_begin(now, v, r),
+            end: self.fits_end(r, s),
+            expire: fits_expire(now, r),
+        }
     }
 }

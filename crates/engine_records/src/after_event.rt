@@ -121,6 +121,7 @@ impl Moment {
 }
 
 // The record after the end of its process; one whose times are out of range is left as it is.
+// Three parameters: a caller has them apart, in table and state, and what is in range becomes a Moment here.
 pub fn end_record(v: Settings, now: u64, good: bool, r: Record) -> Record
     ensures { result ≡ pick (sound v now r) (ended_as r.phase v now (brings v good) r) r }
 {

@@ -50,6 +50,7 @@ pub enum Form {
 }
 
 // What term-signal names, in paper 01's order; none sends nothing.
+// No Option for a case: paper 01's list of signals has none in it, with a number as the others.
 #[derive(Clone, Copy, PartialEq, Eq)]
 pub enum Signal {
     None,
@@ -107,6 +108,7 @@ pub enum Phase {
 }
 
 // Why a service is to end.
+// No Option for a case: paper 01's list of causes has none in it, with a number as the others.
 #[derive(Clone, Copy, PartialEq, Eq)]
 pub enum Cause {
     None,
@@ -161,7 +163,8 @@ pub enum Refusal {
     NoRoom,
 }
 
-// What a call that may change the state gives back: its answer, and the state. A refused call gives back the state that it got.
+// What a call that may change the state gives back: its answer, and the state.
+// A struct: a refused call gives back the state that it got (changed_outcome and its like), which a Result of both would lose.
 #[derive(Clone, Copy)]
 pub struct Answered<A> {
     pub answer: Result<A, Refusal>,
@@ -302,6 +305,7 @@ impl Record {
 }
 
 impl State {
+    // Two functions: this and Table::empty fill types that differ, and paper 01 asks for the fresh ones as associated functions.
     pub fn fresh() -> State
         ensures { result ≡ fresh_state }
     {

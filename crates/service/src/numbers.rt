@@ -157,6 +157,7 @@ impl Action {
     }
 
     // A signal's number stands after those of the three other actions.
+    // A method: no From, since an action is two numbers, its service's beside this one.
     pub fn number(self) -> u64
         ensures { result ≡ action_number self }
     {
