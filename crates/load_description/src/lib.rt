@@ -54,9 +54,10 @@ pub enum Effect {
     Dependency(Link, usize),
 }
 
-// Where a line's value is in its text: where it begins, and its first byte that is no white space.
+// A line's value in the text: the offset where it begins, and that of its first byte which is no white space.
 #[derive(Clone, Copy)]
-pub struct Start {
+pub struct Value<'t> {
+    pub text: &'t [u8],
     pub at: usize,
     pub seen: usize,
 }
@@ -101,10 +102,10 @@ impl Word {
     }
 }
 
-impl Start {
-    // A value outside its property's rule.
+impl Value<'_> {
+    // It is outside its property's rule.
     fn outside(self) -> Fault
-        ensures { result ≡ fault OutsideRule self.seen }
+        ensures { result ≡ fault OutsideRule self.entry.seen }
     {
         Wrong::OutsideRule.at(self.seen)
     }
@@ -149,47 +150,35 @@ impl Description {
 
     // A dependency on a word.
     #[tactic(auto, unfolding(crate::specs::Lines::dependency_read))]
-    fn read_dependency(
-        &self,
-        text: &[u8],
-        link: Link,
-        start: Start,
-        word: &[u8],
-    ) -> Result<Effect, Fault>
-        ensures { result ≡ dependency_read text.now self.now link start.at start.seen word.now }
+    fn read_dependency(&self, link: Link, value: Value, word: &[u8]) -> Result<Effect, Fault>
+        ensures { result ≡ dependency_read value.entry.text.now self.now link value.entry.at value.entry.seen word.now }
     {
-        if self.has(text, link, word) {
+        if self.has(value.text, link, word) {
             return Ok(Effect::Nothing);
         }
         if self.count < MAX_DEPENDENCIES {
-            return Ok(Effect::Dependency(link, start.at));
+            return Ok(Effect::Dependency(link, value.at));
         }
-        Err(Wrong::TooManyDependencies.at(start.seen))
+        Err(Wrong::TooManyDependencies.at(value.seen))
     }
 
     // A line of a property that takes a word.
     #[tactic(auto, unfolding(crate::specs::Lines::word_read))]
-    fn read_word(
-        &self,
-        text: &[u8],
-        p: Property,
-        start: Start,
-        word: &[u8],
-    ) -> Result<Effect, Fault>
-        ensures { result ≡ word_read text.now self.now p start.at start.seen word.now }
+    fn read_word(&self, p: Property, value: Value, word: &[u8]) -> Result<Effect, Fault>
+        ensures { result ≡ word_read value.entry.text.now self.now p value.entry.at value.entry.seen word.now }
     {
         match p {
-            Property::Kind => read_kind(word).map(Effect::Kind).ok_or(start.outside()),
+            Property::Kind => read_kind(word).map(Effect::Kind).ok_or(value.outside()),
             Property::Setting(s) => read_setting(s, word, self.settings)
                 .map(Effect::Settings)
-                .ok_or(start.outside()),
+                .ok_or(value.outside()),
             Property::Link(link) => {
                 if is_name(word) {
-                    return self.read_dependency(text, link, start, word);
+                    return self.read_dependency(link, value, word);
                 }
-                Err(start.outside())
+                Err(value.outside())
             }
-            Property::Command(_) | Property::Unknown => Err(start.outside()),
+            Property::Command(_) | Property::Unknown => Err(value.outside()),
         }
     }
 
@@ -197,22 +186,21 @@ impl Description {
     #[tactic(auto, unfolding(crate::specs::Lines::tokens_read))]
     pub fn read_tokens(
         &self,
-        text: &[u8],
         p: Property,
-        start: Start,
+        value: Value,
         sizes: Sizes,
-        value: &[u8],
+        bytes: &[u8],
     ) -> Result<Effect, Fault>
-        ensures { result ≡ tokens_read text.now self.now p start.at start.seen sizes value.now }
+        ensures { result ≡ tokens_read value.entry.text.now self.now p value.entry.at value.entry.seen sizes bytes.now }
     {
         if let Property::Command(c) = p {
-            return read_command(c, start, sizes);
+            return read_command(c, value, sizes);
         }
         if is_word(sizes) {
-            let word = Word::of(value);
-            return self.read_word(text, p, start, word.bytes());
+            let word = Word::of(bytes);
+            return self.read_word(p, value, word.bytes());
         }
-        Err(start.outside())
+        Err(value.outside())
     }
 
     // 13 and 14.
@@ -254,13 +242,13 @@ fn is_word(sizes: Sizes) -> bool
 }
 
 // A line of a command.
-fn read_command(c: Command, start: Start, sizes: Sizes) -> Result<Effect, Fault>
-    ensures { result ≡ command_read c start.at start.seen sizes }
+fn read_command(c: Command, value: Value, sizes: Sizes) -> Result<Effect, Fault>
+    ensures { result ≡ command_read c value.entry.at value.entry.seen sizes }
 {
     if 0 < sizes.first {
-        return Ok(Effect::Command(c, start.at));
+        return Ok(Effect::Command(c, value.at));
     }
-    Err(start.outside())
+    Err(value.outside())
 }
 
 // A service of this type is launched by a command.

@@ -8,7 +8,7 @@ ghost use Rattle.load_description.specs.Settings.{blank, affected};
 ghost use Rattle.load_description.specs.Lines.{property_read, line_read};
 ghost use Rattle.load_description.specs.Texts.{lines_read, text_read};
 
-use load_description::{Dependency, Description, Effect, MAX_DEPENDENCIES, Start};
+use load_description::{Dependency, Description, Effect, MAX_DEPENDENCIES, Value};
 use load_text::{Fault, Places, Wrong, first_bad, line_end, opening_of, part, tail, white_end};
 use load_value::scan_value;
 use load_word::{Command, Property, find_property, with_kind};
@@ -72,13 +72,14 @@ fn read_property(
     if matches!(p, Property::Unknown) {
         return Err(Wrong::UnknownProperty.at(from + s.from));
     }
-    let start = Start {
+    let value = Value {
+        text,
         at: from + s.value,
         seen: from + white_end(line, s.value),
     };
-    let value = tail(line, s.value);
-    let sizes = told_from(start.at, scan_value(value))?;
-    d.read_tokens(text, p, start, sizes, value)
+    let bytes = tail(line, s.value);
+    let sizes = told_from(value.at, scan_value(bytes))?;
+    d.read_tokens(p, value, sizes, bytes)
 }
 
 // The answer to a line, which begins at the offset `from`.
