@@ -56,7 +56,7 @@ PROMISED = [
     ('all_down', 'crates/rules/proofs/Rounds.antt', "pub all_down : {n n' : Now} {cs : List Call} → Rounds t (suc t.count) n cs n'"),
     ('always_formed', 'crates/rules/proofs/Formed.antt', 'pub always_formed : AlwaysFormed'),
     ('RefusalsPoint', 'crates/guarantee/specs/Refusals.antt',
-     '→ (load lent ends tokens).loaded.answer ≡ Refused k s l c → Told (text_at lent ends s) k l c'),
+     '→ (load lent ends tokens).loaded.answer ≡ Err r → Told (text_at lent ends r.service) r.number r.line r.column'),
     ('refusals_point', 'crates/guarantee/proofs/Pointing.antt', 'pub refusals_point : RefusalsPoint'),
     ('LineAndColumnTell', 'crates/load_text/specs/Offsets.antt',
      'LineAndColumnTell = (text : List ℕ) (at : ℕ) → Stands text at (line_number text at) (column_number text at)'),
