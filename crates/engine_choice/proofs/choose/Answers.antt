@@ -1,8 +1,7 @@
 -- `choose` meets its contract: the rules are tried in order.
 use Rattle.std.proofs.Common.{refl}
-use Rattle.rules.specs.declared.Rule.TheVariants.{Lose}
 use Rattle.engine_choice.specs.Fits.{choice_from, tries}
-use Rattle.engine_choice.proofs.Tried.{turn_fits, turn_none, turn_all}
+use Rattle.engine_choice.proofs.Tried.{turn_fits, turn_none}
 use Rattle.engine_choice.proofs.choose.Goals as goal
 
 pub loop-rule-init : goal.loop-rule-init
@@ -14,6 +13,3 @@ returns-then-s-n c = turn_fits _ (tries c.args.f) _ _ _ c.loop-rule.invariant c.
 
 pub loop-rule-preserved : goal.loop-rule-preserved
 loop-rule-preserved c = turn_none _ (tries c.args.f) _ _ _ c.loop-rule.invariant c.loop-rule-test.true c.lowest-s.ensures c.if-s-n.false
-
-pub returns : goal.returns
-returns c = turn_all (Lose, 0) (tries c.args.f) _ _ _ c.loop-rule.invariant c.loop-rule-test.false
