@@ -33,6 +33,8 @@ FORM = (r"while|loop|index|match|switch|numbers?|flags?|answers?|structs?|enums?
 KEPT = re.compile(rf"//+ (?:An?|Own|Two|Three|No|By)(?: [\w'`]+){{0,4}}? (?:{FORM}): |"
                   r"//.*(?:would cost|costs? a copy|allocates nothing|no plainer|is plainer|slower|faster|did not (?:prove|close)|does not (?:prove|close)|guarantee's|theorem)")
 
+INSIDE = re.compile(r"//+ (?:An?|Two|No) (?:while|loops?|index|match|switch|search|fold|minimum|list|order)\b[^:]*: ")
+
 # The names of a case or a field that say whether there is a value.
 NONE = {"None", "Nothing", "Unknown", "Off", "Bad", "Refused", "Malformed", "Unreadable", "Invalid", "Missing", "Absent", "Failed", "Error"}
 FAULTS = NONE - {"None", "Nothing", "Failed"}
@@ -171,13 +173,23 @@ class Places:
 
     @staticmethod
     def reason(file, line):
-        """The comment that says why a place stays: at the end of its line, or in the lines above it that are comments and attributes."""
-        k, said = line - 1, file.lines[line - 1]
-        above = [said[said.index("//") :]] if "// " in said else []
-        while k > 0 and re.match(r"\s*(//|#\[)", file.lines[k - 1]):
-            above.append(file.lines[k - 1].strip())
-            k -= 1
-        return next((one_line(c, 100) for c in above if KEPT.match(c)), "")
+        """The comment that says why a place stays: at the end of its line, or in the lines above it that are comments and attributes; or above the function
+        that the place stands in, where the comment speaks of a part of it."""
+        said = file.lines[line - 1]
+        near = [said[said.index("//") :]] if "// " in said else []
+        found = next((c for c in near + Places.above(file, line) if KEPT.match(c)), "")
+        f = next((f for f in file.functions if file.line(f.at) < line <= file.line(f.end)), None)
+        if not found and f:
+            found = next((c for c in Places.above(file, file.line(f.at)) if INSIDE.match(c)), "")
+        return one_line(found, 100)
+
+    @staticmethod
+    def above(file, line):
+        found = []
+        while line > 1 and re.match(r"\s*(//|#\[)", file.lines[line - 2]):
+            found.append(file.lines[line - 2].strip())
+            line -= 1
+        return found
 
     @staticmethod
     def fields(inside):
