@@ -1,15 +1,11 @@
--- What is made of a word that is read, and a word as it stands in its buffer.
-use Rattle.std.proofs.Common.{arith, ap, take, drop, ◌++◌, ◌∙◌, zero-add, Option, Some, None, MatchOption, IsSomeAnd, option_map, ok_or}
-use mathlib.Core.List.{List}
+-- What is made of a word that is read: a type, settings, or nothing outside the rule.
+use Rattle.std.proofs.Common.{ap, Option, Some, None, MatchOption, IsSomeAnd, option_map, ok_or}
 use mathlib.Core.Path.{◌≡◌, refl}
-use Prim.Native.Nat.{ℕ, ◌≤◌}
-use lib.ListN.{length}
-use lib.Seq.{sets-eq, take-append_seam}
+use Prim.Native.Nat.{ℕ}
 use Rattle.service.specs.declared.Kind.{Kind as ServiceKind}
 use Rattle.service.specs.declared.Settings.{Settings as ServiceSettings}
 use Rattle.load_text.specs.Lines.{fault}
 use Rattle.load_text.specs.declared.Wrong.TheVariants.{OutsideRule}
-use Rattle.load_value.specs.Stores.{Puts}
 use Rattle.load_description.specs.declared.Effect.{Effect}
 use Rattle.load_description.specs.declared.Effect.TheVariants.{Kind as EffectKind, Settings as EffectSettings}
 use Rattle.load_description.specs.Lines.{kind_read, setting_read}
@@ -32,10 +28,3 @@ kind_told seen (Some k) = refl
 pub setting_told : (seen : ℕ) (o : Option ServiceSettings) → ok_or (option_map (λ v. EffectSettings v) o) (fault OutsideRule seen) ≡ setting_read seen o
 setting_told seen None = refl
 setting_told seen (Some v) = refl
-
--- what was stored at the start of a buffer stands there
-pub puts_taken : {d vs d' : List ℕ} {r : ℕ} → length vs ≤ length d → Puts d 0 vs d' r → take r d' ≡ vs
-puts_taken {d} {vs} h p =
-    let n = p.next ∙ zero-add (length vs) in
-    let b = p.buffer ∙ sets-eq vs d 0 (omega arith) ∙ ap (λ (k : ℕ). vs ++ drop k d) (zero-add (length vs)) in
-    rw (n, b) (take-append_seam vs (drop (length vs) d))
