@@ -45,6 +45,7 @@ pub struct Description {
 }
 
 // What a line does: nothing; a type; other settings; a command, or a dependency more, whose value begins at an offset.
+// An own enum: nothing is one of five effects; an Option around the other four would be two types to go by, and no plainer.
 #[derive(Clone, Copy)]
 pub enum Effect {
     Nothing,
@@ -63,6 +64,7 @@ pub struct Value<'t> {
 }
 
 // The word that a value is; of one that is too long for a word, as much as there is room for.
+// A length beside a buffer: the core allocates nothing (docs/HOST.md, "Reentrancy"); contracts see the bytes alone.
 #[derive(Drop)]
 pub struct Word {
     buffer: [u8; WORD_ROOM],
@@ -113,6 +115,7 @@ impl Value<'_> {
 
 impl Dependency {
     // It is one of the kind on the word.
+    // Two parameters: a struct of link and word would be made in one place and taken apart here, no plainer.
     fn is_on(self, text: &[u8], link: Link, word: &[u8]) -> bool
         ensures { result ≡ is_dependency text.now self link word.now }
     {
@@ -163,6 +166,7 @@ impl Description {
     }
 
     // A line of a property that takes a word.
+    // A match: each kind of property has a rule of its own, with an effect of its own; functions of one type for them would be no plainer.
     #[tactic(auto, unfolding(crate::specs::Lines::word_read))]
     fn read_word(&self, p: Property, value: Value, word: &[u8]) -> Result<Effect, Fault>
         ensures { result ≡ word_read value.entry.text.now self.now p value.entry.at value.entry.seen word.now }
