@@ -1,25 +1,29 @@
--- Of the code: the texts by their places, and answers computed: of next actions, of queries and of loads.
-use Rattle.std.specs.Prelude.{true, false, ◌≡◌, refl, [], ◌∷◌, map, get_or}
-use Rattle.load_text.specs.Strings.{bytes}
-use Rattle.scenario_replies.specs.Texts.{texts}
-use Rattle.scenario_replies.specs.Replies.{ok_text, ok_count_text, refused_text, load_refused_text, bad_line_text, quiet_text}
-use Rattle.scenario_replies.specs.Replies.{moved_text, launch_text, stop_command_text, signal_text, earliest_text, no_earliest_text}
+-- Of the code: the texts by their names, and answers computed: of next actions, of queries and of loads.
+use Rattle.std.specs.Prelude.{Some, None, Ok, Err, ◌≡◌, refl, [], ◌∷◌, map, get_or}
+use Rattle.load_text.specs.Strings.{bytes, same, index_from}
+use Rattle.scenario_replies.specs.declared.Text.TheVariants.{Accepted, Loaded, Refused, LoadRefused, BadLine, Quiet, Moved, Launch, StopCommand, Signal, Earliest, NoEarliest}
+use Rattle.scenario_replies.specs.Texts.{told, texts, place, places}
 use Rattle.scenario_replies.specs.Replies.{reply_of, next_reply, query_reply, load_reply}
 
+-- the names stand where their texts do
+pub names_stand : map (λ t. place t.name) told ≡ places
+unfolding bytes texts places index_from same
+names_stand = refl
+
 -- the texts stand where the definitions say
-pub texts_stand : map (λ p. get_or texts p []) (
-    ok_text ∷
-    ok_count_text ∷
-    refused_text ∷
-    load_refused_text ∷
-    bad_line_text ∷
-    quiet_text ∷
-    moved_text ∷
-    launch_text ∷
-    stop_command_text ∷
-    signal_text ∷
-    earliest_text ∷
-    no_earliest_text ∷
+pub texts_stand : map (λ t. get_or texts (place t) []) (
+    Accepted ∷
+    Loaded ∷
+    Refused ∷
+    LoadRefused ∷
+    BadLine ∷
+    Quiet ∷
+    Moved ∷
+    Launch ∷
+    StopCommand ∷
+    Signal ∷
+    Earliest ∷
+    NoEarliest ∷
     []) ≡ map bytes (
     "ok" ∷
     "ok #" ∷
@@ -38,27 +42,23 @@ unfolding bytes texts
 texts_stand = refl
 
 -- "signal 4 TERM", which is place 3 of the signals
-pub signal_told : next_reply (record { refusal = 0; quiet = false; service = 4; action = 6 }) ≡ reply_of 9 4 3
-unfolding next_reply
+pub signal_told : next_reply (Ok (Some (record { service = 4; action = 6 }))) ≡ reply_of Signal 4 3
 signal_told = refl
 
-pub launch_told : next_reply (record { refusal = 0; quiet = false; service = 4; action = 1 }) ≡ reply_of 7 4 0
-unfolding next_reply
+pub launch_told : next_reply (Ok (Some (record { service = 4; action = 1 }))) ≡ reply_of Launch 4 0
 launch_told = refl
 
-pub quiet_told : next_reply (record { refusal = 0; quiet = true; service = 0; action = 0 }) ≡ reply_of 5 0 0
-unfolding next_reply
+pub quiet_told : next_reply (Ok None) ≡ reply_of Quiet 0 0
 quiet_told = refl
 
-pub refusal_told : next_reply (record { refusal = 24; quiet = false; service = 0; action = 0 }) ≡ reply_of 2 24 0
-unfolding next_reply
+pub refusal_told : next_reply (Err 24) ≡ reply_of Refused 24 0
 refusal_told = refl
 
-pub none_told : query_reply (record { refusal = 0; timed = false; time = 0 }) ≡ reply_of 12 0 0
+pub none_told : query_reply (Ok None) ≡ reply_of NoEarliest 0 0
 none_told = refl
 
-pub load_told : load_reply (record { number = 0; service = 0; line = 0; column = 0; count = 5 }) ≡ reply_of 1 5 0
+pub load_told : load_reply (Ok 5) ≡ reply_of Loaded 5 0
 load_told = refl
 
-pub load_refused : load_reply (record { number = 7; service = 2; line = 3; column = 4; count = 0 }) ≡ record { text = 3; first = 7; second = 2; third = 3; fourth = 4 }
+pub load_refused : load_reply (Err (record { number = 7; service = 2; line = 3; column = 4 })) ≡ record { text = LoadRefused; numbers = 7 ∷ 2 ∷ 3 ∷ 4 ∷ [] }
 load_refused = refl

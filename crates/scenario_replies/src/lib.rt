@@ -2,10 +2,11 @@
 #![tactic(auto)]
 
 ghost use Rattle.std.specs.Prelude.{◌≡◌};
-ghost use Rattle.scenario_replies.specs.Texts.{texts, lined, places};
+ghost use Rattle.scenario_replies.specs.Texts.{texts, lined, place, places};
 ghost use Rattle.scenario_replies.specs.Replies.{reply_of, ok_reply, bad_reply, refused_reply, event_reply, action_text, action_signal, next_reply, query_reply, load_reply};
 
-use plain::{Asked, Load, Next};
+use load_lent::Refused;
+use plain::Handed;
 
 // The texts of the answers, one on a line, and the lists of names.
 //
@@ -39,165 +40,145 @@ process scripted internal
 none HUP INT TERM QUIT USR1 USR2 KILL
 no yes";
 
-// The answers.
-pub const OK: usize = 0;
+// The texts by name, in their order: the answers, and then the lists of names, which are separated by spaces.
+#[derive(Clone, Copy, PartialEq, Eq)]
+pub enum Text {
+    Accepted,
+    Loaded,
+    Refused,
+    LoadRefused,
+    BadLine,
+    Quiet,
+    Moved,
+    Launch,
+    StopCommand,
+    Signal,
+    RunCount,
+    Earliest,
+    NoEarliest,
+    ClockLine,
+    Record,
+    RecordTimed,
+    Settings,
+    Commands,
+    NoTokens,
+    Tokens,
+    ServiceHead,
+    ServiceTail,
+    Phases,
+    Causes,
+    Kinds,
+    Signals,
+    Restarts,
+}
 
-pub const OK_COUNT: usize = 1;
-
-pub const REFUSED: usize = 2;
-
-pub const LOAD_REFUSED: usize = 3;
-
-pub const BAD_LINE: usize = 4;
-
-pub const QUIET: usize = 5;
-
-pub const MOVED: usize = 6;
-
-pub const LAUNCH: usize = 7;
-
-pub const STOP_COMMAND: usize = 8;
-
-pub const SIGNAL: usize = 9;
-
-pub const RUN_COUNT: usize = 10;
-
-pub const EARLIEST: usize = 11;
-
-pub const NO_EARLIEST: usize = 12;
-
-pub const CLOCK_LINE: usize = 13;
-
-pub const RECORD: usize = 14;
-
-pub const RECORD_TIMED: usize = 15;
-
-pub const SETTINGS: usize = 16;
-
-pub const COMMANDS: usize = 17;
-
-pub const NO_TOKENS: usize = 18;
-
-pub const TOKENS: usize = 19;
-
-pub const SERVICE_HEAD: usize = 20;
-
-pub const SERVICE_TAIL: usize = 21;
-
-// The lists of names, separated by spaces.
-pub const PHASES: usize = 22;
-
-pub const CAUSES: usize = 23;
-
-pub const KINDS: usize = 24;
-
-pub const SIGNALS: usize = 25;
-
-pub const RESTARTS: usize = 26;
+impl Text {
+    // The place of a text among the texts.
+    pub fn place(self) -> usize
+        ensures { result ≡ place self }
+    {
+        self as usize
+    }
+}
 
 // The texts of the answers, each with its newline but the last.
+#[tactic(auto, unfolding(crate::specs::Texts::texts, crate::specs::Texts::lined))]
 pub fn texts() -> [u8; 703]
     ensures { result ≡ lined texts }
 {
     TEXTS
 }
 
-// The places of the texts, in their order. That the names above stand for these texts is what it promises.
+// The places of the texts, in their order. That the names stand for these texts is what it promises.
+#[tactic(auto, unfolding(crate::specs::Texts::places))]
 pub fn places() -> [usize; 27]
     ensures { result ≡ places }
 {
     [
-        OK,
-        OK_COUNT,
-        REFUSED,
-        LOAD_REFUSED,
-        BAD_LINE,
-        QUIET,
-        MOVED,
-        LAUNCH,
-        STOP_COMMAND,
-        SIGNAL,
-        RUN_COUNT,
-        EARLIEST,
-        NO_EARLIEST,
-        CLOCK_LINE,
-        RECORD,
-        RECORD_TIMED,
-        SETTINGS,
-        COMMANDS,
-        NO_TOKENS,
-        TOKENS,
-        SERVICE_HEAD,
-        SERVICE_TAIL,
-        PHASES,
-        CAUSES,
-        KINDS,
-        SIGNALS,
-        RESTARTS,
+        Text::Accepted as usize,
+        Text::Loaded as usize,
+        Text::Refused as usize,
+        Text::LoadRefused as usize,
+        Text::BadLine as usize,
+        Text::Quiet as usize,
+        Text::Moved as usize,
+        Text::Launch as usize,
+        Text::StopCommand as usize,
+        Text::Signal as usize,
+        Text::RunCount as usize,
+        Text::Earliest as usize,
+        Text::NoEarliest as usize,
+        Text::ClockLine as usize,
+        Text::Record as usize,
+        Text::RecordTimed as usize,
+        Text::Settings as usize,
+        Text::Commands as usize,
+        Text::NoTokens as usize,
+        Text::Tokens as usize,
+        Text::ServiceHead as usize,
+        Text::ServiceTail as usize,
+        Text::Phases as usize,
+        Text::Causes as usize,
+        Text::Kinds as usize,
+        Text::Signals as usize,
+        Text::Restarts as usize,
     ]
 }
 
-// An answer: the place of its text, and up to four numbers.
+// An answer: its text, and the numbers in that.
 #[derive(Clone, Copy)]
 pub struct Reply {
-    pub text: usize,
-    pub first: u64,
-    pub second: u64,
-    pub third: u64,
-    pub fourth: u64,
+    pub text: Text,
+    pub numbers: [u64; 4],
 }
 
-fn reply_of(text: usize, first: u64, second: u64) -> Reply
+fn reply_of(text: Text, first: u64, second: u64) -> Reply
     ensures { result ≡ reply_of text first second }
 {
     Reply {
         text,
-        first,
-        second,
-        third: 0,
-        fourth: 0,
+        numbers: [first, second, 0, 0],
     }
 }
 
 pub fn ok_reply() -> Reply
     ensures { result ≡ ok_reply }
 {
-    reply_of(OK, 0, 0)
+    reply_of(Text::Accepted, 0, 0)
 }
 
 // The line of this number is bad.
 pub fn bad_reply(number: u64) -> Reply
     ensures { result ≡ bad_reply number }
 {
-    reply_of(BAD_LINE, number, 0)
+    reply_of(Text::BadLine, number, 0)
 }
 
 pub fn refused_reply(refusal: u64) -> Reply
     ensures { result ≡ refused_reply refusal }
 {
-    reply_of(REFUSED, refusal, 0)
+    reply_of(Text::Refused, refusal, 0)
 }
 
-// An event that was refused for this number, or for none where it is 0.
-pub fn event_reply(refusal: u64) -> Reply
-    ensures { result ≡ event_reply refusal }
+// An event that was accepted, or refused for this number.
+pub fn event_reply(answer: Result<(), u64>) -> Reply
+    ensures { result ≡ event_reply answer }
 {
-    let accepted = refusal == 0;
-    if accepted {
-        return ok_reply();
+    match answer {
+        Ok(()) => ok_reply(),
+        Err(refusal) => refused_reply(refusal),
     }
-    refused_reply(refusal)
 }
 
 // The text of an action by its number: three kinds, and then the signals.
-pub fn action_text(action: u64) -> usize
+pub fn action_text(action: u64) -> Text
     ensures { result ≡ action_text action }
 {
     match action {
-        0 => MOVED,
-        1 => LAUNCH,
-        2 => STOP_COMMAND,
-        _ => SIGNAL,
+        0 => Text::Moved,
+        1 => Text::Launch,
+        2 => Text::StopCommand,
+        _ => Text::Signal,
     }
 }
 
@@ -205,62 +186,52 @@ pub fn action_text(action: u64) -> usize
 pub fn action_signal(action: u64) -> u64
     ensures { result ≡ action_signal action }
 {
-    if action < 3 {
-        return 0;
-    }
-    action - 3
+    action.saturating_sub(3)
 }
 
-pub fn next_reply(next: Next) -> Reply
+pub fn next_reply(next: Result<Option<Handed>, u64>) -> Reply
     ensures { result ≡ next_reply next }
 {
-    let refusal = next.refusal;
-    let decided = refusal == 0;
-    let quiet = next.quiet;
-    let service = next.service;
-    let action = next.action;
-    if decided {
-        if quiet {
-            return reply_of(QUIET, 0, 0);
+    match next {
+        Ok(Some(Handed { service, action })) => {
+            reply_of(action_text(action), service, action_signal(action))
         }
-        return reply_of(action_text(action), service, action_signal(action));
+        Ok(None) => reply_of(Text::Quiet, 0, 0),
+        Err(refusal) => refused_reply(refusal),
     }
-    refused_reply(refusal)
 }
 
-pub fn query_reply(asked: Asked) -> Reply
+pub fn query_reply(asked: Result<Option<u64>, u64>) -> Reply
     ensures { result ≡ query_reply asked }
 {
-    let refusal = asked.refusal;
-    let answered = refusal == 0;
-    let timed = asked.timed;
-    let time = asked.time;
-    if answered {
-        if timed {
-            return reply_of(EARLIEST, time, 0);
-        }
-        return reply_of(NO_EARLIEST, 0, 0);
+    match asked {
+        Ok(Some(time)) => reply_of(Text::Earliest, time, 0),
+        Ok(None) => reply_of(Text::NoEarliest, 0, 0),
+        Err(refusal) => refused_reply(refusal),
     }
-    refused_reply(refusal)
 }
 
-pub fn load_reply(load: Load) -> Reply
+// An accepted load has its count of services.
+pub fn load_reply(load: Result<u64, Refused>) -> Reply
     ensures { result ≡ load_reply load }
 {
-    let number = load.number;
-    let accepted = number == 0;
-    let count = load.count;
-    let service = load.service;
-    let line = load.line;
-    let column = load.column;
-    if accepted {
-        return reply_of(OK_COUNT, count, 0);
-    }
-    Reply {
-        text: LOAD_REFUSED,
-        first: number,
-        second: service,
-        third: line,
-        fourth: column,
+    match load {
+        Ok(count) => reply_of(Text::Loaded, count, 0),
+        Err(
+            Refused {
+                number,
+                service,
+                line,
+                column,
+            },
+        ) => Reply {
+            text: Text::LoadRefused,
+            numbers: [
+                u64::from(number),
+                service as u64,
+                line as u64,
+                column as u64,
+            ],
+        },
     }
 }

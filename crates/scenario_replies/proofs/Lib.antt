@@ -1,2 +1,0 @@
--- The laws, each file after those that it cites.
-pub mod Next
