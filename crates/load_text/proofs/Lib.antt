@@ -1,5 +1,4 @@
 -- The laws, each file after those that it cites.
-pub mod Strings
 pub mod Chains
 pub mod Runs
 pub mod Lines

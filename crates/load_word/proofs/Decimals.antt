@@ -1,11 +1,11 @@
 -- Numbers of digits, and the laws of a decimal number as the loop reads it.
-use mathlib.Core.Path.{◌≡◌}
+use mathlib.Core.Path.{◌≡◌, refl}
 use mathlib.Core.List.{List}
-use mathlib.Core.Bool.{true}
+use mathlib.Core.Bool.{Bool, true, false}
+use Rattle.std.specs.Bool.{then_some}
 use Prim.Native.Nat.{ℕ, suc, ◌+◌, ◌-◌, ◌*◌, ◌^◌, ◌≤◌, ◌<◌}
-use native.Mathlib.Nat.{pow-suc, pow-le-pow_right, lt_of_lt_of_le, lt_of_le_of_lt, mul-le-mul_left}
+use native.Mathlib.Nat.{pow-suc}
 use native.Mathlib.Omega.{arith}
-use lib.Dec.{lit<}
 use lib.ListN.{length, get_or, drop, drop_of_length-le}
 use borrow.Author.Tests.{leb-true}
 use Rattle.base.proofs.Tests.{and_true}
@@ -18,19 +18,14 @@ use Rattle.std.specs.Prelude.{Option, Some}
 pub digit_bounds : (b : ℕ) → is_digit b ≡ true → (48 ≤ b) × (b ≤ 57)
 digit_bounds b e = let p = (and_true _ _).0 e in (leb-true _ _ p.0, leb-true _ _ p.1)
 
--- ten digits are below 10 ^ 10
-pub ten_digits : (k : Decimal) → Sane (Some k) → k.value < 10000000000
-ten_digits k h = lt_of_lt_of_le h.2 (pow-le-pow_right (lit< tt) {j = 10} (omega (arith, h.0, h.1)))
-
 -- one digit more
 pub digit_more : (n v b : ℕ) → v < 10 ^ n → b ≤ 57 → v * 10 + (b - 48) < 10 ^ suc n
 digit_more n v b h l = rw (pow-suc 10 n) (omega arith)
 
--- the units of ten digits fit
-pub units_fit : (v p r : ℕ) → v < 10000000000 → r ≡ 10 ^ (4 - p) → v * r < 2 ^ 64
-units_fit v p r h e =
-    let l : r ≤ 10 ^ 4 = rw e (pow-le-pow_right (lit< tt) {j = 4} (omega arith)) in
-    lt_of_le_of_lt (mul-le-mul_left v l) (omega arith)
+-- what is as many digits as it says, where it is anything
+pub sane_if : (t : Bool) (k : Decimal) → (t ≡ true → Sane (Some k)) → Sane (then_some t k)
+sane_if true k h = h refl
+sane_if false k h = tt
 
 module _ (k : Decimal) (s : List ℕ) (i : ℕ) where
   pub decimal_end : length s ≤ i → decimal_from k (drop i s) ≡ Some k

@@ -1,6 +1,7 @@
 -- Trusted: "Yes or no", types and signals, and names of services (number 3).
 use Rattle.std.specs.Prelude.{ℕ, zero, suc, ◌+◌, Bool, true, false, ◌&&◌, Option, Some, None, List, [], ◌∷◌, leb, ltb, length}
 use Prim.Native.String.{String}
+use denote.Ref.{Bor}
 use Rattle.base.specs.Folds.{pick}
 use Rattle.load_text.specs.Strings.{bytes, same, index_from}
 use Rattle.load_text.specs.Bytes.{is_name_byte, longest_name}
@@ -9,6 +10,11 @@ use Rattle.service.specs.declared.Kind.{Kind}
 use Rattle.service.specs.declared.Kind.TheVariants.{Internal, Process, Scripted}
 use Rattle.service.specs.declared.Signal.{Signal}
 use Rattle.service.specs.declared.Signal.TheVariants.{Hup, Int, Kill, None as NoSignal, Quit, Term, Usr1, Usr2}
+
+-- what stands in a table with the first of its names that n is
+unfoldable pub found : {T : Type 0} → List ℕ → List (Bor (List ℕ) × T) → Option T
+found n [] = None
+found n (e ∷ es) = pick (same n e.0.now) (Some e.1) (found n es)
 
 -- "smooth-recovery accepts only no or false"
 unfoldable pub no_of : List ℕ → Option Bool

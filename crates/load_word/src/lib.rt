@@ -3,17 +3,13 @@
 
 ghost use Rattle.std.specs.Prelude.{◌≡◌, true, Some, ◌-◌, ◌^◌, ◌≤◌};
 ghost use Rattle.load_text.specs.Bytes.{is_digit};
-ghost use Rattle.load_text.specs.Strings.{index_from};
 ghost use Rattle.service.specs.Numbers.{kind_number, with_number};
-ghost use Rattle.load_word.specs.Words.{flag_of, no_of, kind_of, signal_of, name_bytes, is_name};
+ghost use Rattle.load_word.specs.Words.{found, flag_of, no_of, kind_of, signal_of, name_bytes, is_name};
 ghost use Rattle.load_word.specs.Decimals.{Sane, blank, digit_of, read_of, decimal_from, time_of, count_of};
-ghost use Rattle.load_word.specs.Properties.{property_names, property_of, setting_of};
+ghost use Rattle.load_word.specs.Properties.{property_of, setting_of};
 
 use load_text::{LONGEST_NAME, is_digit, is_name_byte, same_bytes};
-use service::{Kind, LAST_SIGNAL, LONGEST_TIME, MAX_COUNT, Settings, Signal, signal_at};
-
-// How many signals there are.
-const SIGNALS: usize = LAST_SIGNAL as usize + 1;
+use service::{Kind, LONGEST_TIME, MAX_COUNT, Settings, Signal};
 
 // A property by what its value is: the type; a word that the settings hold; a command; the name of a service that is depended on.
 #[derive(Clone, Copy)]
@@ -62,253 +58,190 @@ pub struct Decimal {
     pub point: bool,
 }
 
-// The place of a name among those of the properties; their count where it is none of them. The first one's type makes all of them slices.
-fn find_place(name: &[u8]) -> usize
-    ensures { result ≡ index_from name.now 0 property_names }
+// What stands with a name in a table, by the first place that has it.
+fn find<T: Copy>(name: &[u8], table: &[(&[u8], T)]) -> Option<T>
+    ensures { result ≡ found name.now table.now }
 {
-    let names = [
-        b"type" as &[u8],
-        b"command",
-        b"stop-command",
-        b"restart",
-        b"smooth-recovery",
-        b"restart-delay",
-        b"restart-limit-interval",
-        b"restart-limit-count",
-        b"start-timeout",
-        b"stop-timeout",
-        b"depends-on",
-        b"depends-ms",
-        b"waits-for",
-        b"term-signal",
-    ];
-    let mut k: usize = 0;
-    while k < names.len() {
-        let n = names[k];
-        let found = same_bytes(name, n);
-        if found {
-            return k;
-        }
-        k += 1;
-    }
-    k
+    table.iter().find(|e| same_bytes(name, e.0)).map(|e| e.1)
 }
 
-// The property of a name. The properties stand in the order of their names.
+// The property of a name.
 pub fn find_property(name: &[u8]) -> Property
     ensures { result ≡ property_of name.now }
 {
-    let properties = [
-        Property::Kind,
-        Property::Command(Command::Start),
-        Property::Command(Command::Stop),
-        Property::Setting(Setting::Restart),
-        Property::Setting(Setting::SmoothRecovery),
-        Property::Setting(Setting::RestartDelay),
-        Property::Setting(Setting::RestartLimitInterval),
-        Property::Setting(Setting::RestartLimitCount),
-        Property::Setting(Setting::StartTimeout),
-        Property::Setting(Setting::StopTimeout),
-        Property::Link(Link::DependsOn),
-        Property::Link(Link::DependsMs),
-        Property::Link(Link::WaitsFor),
-        Property::Setting(Setting::TermSignal),
-    ];
-    let k = find_place(name);
-    if k < properties.len() {
-        return properties[k];
-    }
-    Property::Unknown
+    find(
+        name,
+        &[
+            (b"type", Property::Kind),
+            (b"command", Property::Command(Command::Start)),
+            (b"stop-command", Property::Command(Command::Stop)),
+            (b"restart", Property::Setting(Setting::Restart)),
+            (
+                b"smooth-recovery",
+                Property::Setting(Setting::SmoothRecovery),
+            ),
+            (b"restart-delay", Property::Setting(Setting::RestartDelay)),
+            (
+                b"restart-limit-interval",
+                Property::Setting(Setting::RestartLimitInterval),
+            ),
+            (
+                b"restart-limit-count",
+                Property::Setting(Setting::RestartLimitCount),
+            ),
+            (b"start-timeout", Property::Setting(Setting::StartTimeout)),
+            (b"stop-timeout", Property::Setting(Setting::StopTimeout)),
+            (b"depends-on", Property::Link(Link::DependsOn)),
+            (b"depends-ms", Property::Link(Link::DependsMs)),
+            (b"waits-for", Property::Link(Link::WaitsFor)),
+            (b"term-signal", Property::Setting(Setting::TermSignal)),
+        ],
+    )
+    .unwrap_or(Property::Unknown)
 }
 
 // Yes or no.
 fn read_flag(word: &[u8]) -> Option<bool>
     ensures { result ≡ flag_of word.now }
 {
-    if same_bytes(word, b"yes") {
-        return Some(true);
-    }
-    if same_bytes(word, b"true") {
-        return Some(true);
-    }
-    read_no(word)
+    find(
+        word,
+        &[
+            (b"yes", true),
+            (b"true", true),
+            (b"no", false),
+            (b"false", false),
+        ],
+    )
 }
 
 // No, and nothing else.
 fn read_no(word: &[u8]) -> Option<bool>
     ensures { result ≡ no_of word.now }
 {
-    if same_bytes(word, b"no") {
-        return Some(false);
-    }
-    if same_bytes(word, b"false") {
-        return Some(false);
-    }
-    None
+    find(word, &[(b"no", false), (b"false", false)])
 }
 
 // A type.
 pub fn read_kind(word: &[u8]) -> Option<Kind>
     ensures { result ≡ kind_of word.now }
 {
-    if same_bytes(word, b"process") {
-        return Some(Kind::Process);
-    }
-    if same_bytes(word, b"scripted") {
-        return Some(Kind::Scripted);
-    }
-    if same_bytes(word, b"internal") {
-        return Some(Kind::Internal);
-    }
-    None
+    find(
+        word,
+        &[
+            (b"process", Kind::Process),
+            (b"scripted", Kind::Scripted),
+            (b"internal", Kind::Internal),
+        ],
+    )
 }
 
 // A signal.
 fn read_signal(word: &[u8]) -> Option<Signal>
     ensures { result ≡ signal_of word.now }
 {
-    let names: [&[u8]; SIGNALS] = [
-        b"none", b"HUP", b"INT", b"TERM", b"QUIT", b"USR1", b"USR2", b"KILL",
-    ];
-    let mut k: usize = 0;
-    while k < SIGNALS {
-        let n = names[k];
-        let found = same_bytes(word, n);
-        if found {
-            return Some(signal_at(k as u64));
-        }
-        k += 1;
-    }
-    None
+    find(
+        word,
+        &[
+            (b"none", Signal::None),
+            (b"HUP", Signal::Hup),
+            (b"INT", Signal::Int),
+            (b"TERM", Signal::Term),
+            (b"QUIT", Signal::Quit),
+            (b"USR1", Signal::Usr1),
+            (b"USR2", Signal::Usr2),
+            (b"KILL", Signal::Kill),
+        ],
+    )
 }
 
-// A digit more.
-fn digit(k: Decimal, b: u8) -> Option<Decimal>
-    requires { (is_digit b ≡ true) × Sane (Some k) }
-    ensures value { result ≡ digit_of k b }
-    ensures sane { Sane result }
-{
-    let value = k.value * 10 + (b - b'0') as u64;
-    if k.point {
-        let more = k.part < 4;
-        if more {
-            return Some(Decimal {
-                part: k.part + 1,
-                value,
-                ..k
-            });
-        }
-        return None;
-    }
-    let more = k.whole < 6;
-    if more {
-        return Some(Decimal {
-            whole: k.whole + 1,
-            value,
-            ..k
-        });
-    }
-    None
-}
-
-// A byte more.
-fn advance(k: Decimal, b: u8) -> Option<Decimal>
-    requires { Sane (Some k) }
-    ensures value { result ≡ read_of k b }
-    ensures sane { Sane result }
-{
-    if is_digit(b) {
-        return digit(k, b);
-    }
-    let dot = (b == b'.') & !k.point & (0 < k.whole);
-    if dot {
-        return Some(Decimal { point: true, ..k });
-    }
-    None
-}
-
-// The decimal number that a word is.
-fn read_decimal(word: &[u8]) -> Option<Decimal>
-    ensures value { result ≡ decimal_from blank word.now }
-    ensures sane { Sane result }
-{
-    let mut k = Decimal {
+impl Decimal {
+    const BLANK: Decimal = Decimal {
         whole: 0,
         part: 0,
         value: 0,
         point: false,
     };
-    let mut i: usize = 0;
-    while i < word.len() {
-        let b = word[i];
-        k = advance(k, b)?;
-        i += 1;
+
+    // A byte more: a digit, of which six may stand before the point and four after it, or the point.
+    #[tactic(auto, unfolding(crate::specs::Decimals::read_of, crate::specs::Decimals::digit_of))]
+    fn with_byte(self, b: u8) -> Option<Decimal>
+        requires { Sane (Some self) }
+        ensures value { result ≡ read_of self b }
+        ensures sane { Sane result }
+    {
+        if !is_digit(b) {
+            let dot = b == b'.' && !self.point && 0 < self.whole;
+            return dot.then_some(Decimal {
+                point: true,
+                ..self
+            });
+        }
+        let value = self.value * 10 + (b - b'0') as u64;
+        if self.point {
+            let part = self.part + 1;
+            return (part <= 4).then_some(Decimal {
+                part,
+                value,
+                ..self
+            });
+        }
+        let whole = self.whole + 1;
+        (whole <= 6).then_some(Decimal {
+            whole,
+            value,
+            ..self
+        })
+    }
+}
+
+// The decimal number that a word is.
+#[tactic(auto, using(crate::proofs::Decimals::decimal_end, crate::proofs::Decimals::decimal_next))]
+fn read_decimal(word: &[u8]) -> Option<Decimal>
+    ensures value { result ≡ decimal_from blank word.now }
+    ensures sane { Sane result }
+{
+    let mut k = Decimal::BLANK;
+    for &b in word {
+        k = k.with_byte(b)?;
     }
     Some(k)
 }
 
-// 10 to the power of what is missing of four digits.
-fn scale(part: usize) -> u64
-    requires { part ≤ 4 }
-    ensures { result ≡ 10 ^ (4 - part) }
-{
-    match part {
-        0 => 10000,
-        1 => 1000,
-        2 => 100,
-        3 => 10,
-        _ => 1,
-    }
-}
-
 // A time in units of 0.1 ms.
+#[tactic(auto, unfolding(crate::specs::Decimals::time_of, crate::specs::Decimals::time_end))]
 fn read_time(word: &[u8]) -> Option<u64>
     ensures { result ≡ time_of word.now }
 {
     let k = read_decimal(word)?;
-    let part = k.part;
-    let units = k.value * scale(part);
-    let good = (0 < k.whole) & (!k.point | (0 < part)) & (units <= LONGEST_TIME);
-    if good {
-        return Some(units);
-    }
-    None
+    let units = k.value * 10u64.pow(4 - k.part as u32);
+    let good = 0 < k.whole && (!k.point || 0 < k.part) && units <= LONGEST_TIME;
+    good.then_some(units)
 }
 
 // A limit count.
+#[tactic(auto, unfolding(crate::specs::Decimals::count_of, crate::specs::Decimals::count_end))]
 fn read_limit(word: &[u8]) -> Option<u64>
     ensures { result ≡ count_of word.now }
 {
     let k = read_decimal(word)?;
-    let good = (0 < k.whole) & (k.whole <= 5) & !k.point & (k.value <= MAX_COUNT);
-    if good {
-        return Some(k.value);
-    }
-    None
+    let good = matches!(k.whole, 1..=5) && !k.point && k.value <= MAX_COUNT;
+    good.then_some(k.value)
 }
 
 // All bytes are those of a name.
 fn name_bytes(s: &[u8]) -> bool
     ensures { result ≡ name_bytes s.now }
 {
-    let mut i: usize = 0;
-    while i < s.len() {
-        let next = i + 1;
-        let good = is_name_byte(s[i]);
-        if good {
-            i = next;
-        } else {
-            return false;
-        }
-    }
-    true
+    s.iter().all(|b| is_name_byte(*b))
 }
 
 // A name of a service.
+#[tactic(auto, unfolding(crate::specs::Words::is_name))]
 pub fn is_name(s: &[u8]) -> bool
     ensures { result ≡ is_name s.now }
 {
-    (0 < s.len()) & (s.len() <= LONGEST_NAME) & name_bytes(s)
+    0 < s.len() && s.len() <= LONGEST_NAME && name_bytes(s)
 }
 
 // The settings with a type.
@@ -324,38 +257,38 @@ pub fn read_setting(s: Setting, word: &[u8], v: Settings) -> Option<Settings>
     ensures { result ≡ setting_of s word.now v }
 {
     let next = match s {
-        Setting::Restart => {
-            let restart = read_flag(word)?;
-            Settings { restart, ..v }
-        }
+        Setting::Restart => Settings {
+            restart: read_flag(word)?,
+            ..v
+        },
         Setting::SmoothRecovery => {
             read_no(word)?;
             v
         }
-        Setting::RestartDelay => {
-            let delay = read_time(word)?;
-            Settings { delay, ..v }
-        }
-        Setting::RestartLimitInterval => {
-            let interval = read_time(word)?;
-            Settings { interval, ..v }
-        }
-        Setting::RestartLimitCount => {
-            let limit = read_limit(word)?;
-            Settings { limit, ..v }
-        }
-        Setting::StartTimeout => {
-            let start_timeout = read_time(word)?;
-            Settings { start_timeout, ..v }
-        }
-        Setting::StopTimeout => {
-            let stop_timeout = read_time(word)?;
-            Settings { stop_timeout, ..v }
-        }
-        Setting::TermSignal => {
-            let signal = read_signal(word)?;
-            Settings { signal, ..v }
-        }
+        Setting::RestartDelay => Settings {
+            delay: read_time(word)?,
+            ..v
+        },
+        Setting::RestartLimitInterval => Settings {
+            interval: read_time(word)?,
+            ..v
+        },
+        Setting::RestartLimitCount => Settings {
+            limit: read_limit(word)?,
+            ..v
+        },
+        Setting::StartTimeout => Settings {
+            start_timeout: read_time(word)?,
+            ..v
+        },
+        Setting::StopTimeout => Settings {
+            stop_timeout: read_time(word)?,
+            ..v
+        },
+        Setting::TermSignal => Settings {
+            signal: read_signal(word)?,
+            ..v
+        },
     };
     Some(next)
 }

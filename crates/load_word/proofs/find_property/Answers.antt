@@ -1,9 +1,10 @@
 -- `find_property` meets its contract: the property at the place of its name.
-use Rattle.load_word.proofs.Words.{property_found, property_none}
+use mathlib.Core.Path.{◌∙◌}
+use Rattle.load_text.specs.Strings.{bytes}
+use Rattle.load_word.specs.Properties.{property_names, property_of}
+use Rattle.load_word.proofs.Words.{found_at}
 use Rattle.load_word.proofs.find_property.Goals as goal
 
-pub returns-then-k-lt14 : goal.returns-then-k-lt14
-returns-then-k-lt14 c = property_found _ _ c.find_place-k.ensures c.if-k-lt14.true
-
 pub returns : goal.returns
-returns c = property_none _ c.find_place-k.ensures c.if-k-lt14.false
+unfolding property_of property_names bytes
+returns c = c.unwrap_or.ensures ∙ found_at _ _ _ c.find.ensures
