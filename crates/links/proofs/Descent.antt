@@ -1,15 +1,12 @@
 -- The descent: what is safe is on no cycle, and each number that joins the set is safe.
 use Prim.Native.Nat.{ℕ, ◌<◌, ◌≤◌}
 use native.Mathlib.Nat.{lt_of_lt_of_le}
-use native.Mathlib.Omega.{arith}
 use mathlib.Core.Path.{◌≡◌, sym, ap, ◌∙◌}
 use mathlib.Core.Bool.{Bool, true, false, not, ◌&&◌, false≢true}
 use mathlib.Core.List.{List}
 use lib.Dec.{leb}
 use lib.ListN.{length, take}
-use lib.Seq.{get_or-take}
 use borrow.Author.Tests.{eqb-true, leb-true}
-use Rattle.std.proofs.lemmas.List.{length-take-le}
 use Rattle.base.specs.Folds.{first}
 use Rattle.base.specs.Sets.{has_bit, single}
 use Rattle.base.specs.Links.{Path, link, on, reach, cyclic}
@@ -20,7 +17,7 @@ use Rattle.base.proofs.Sets.{single_only}
 use Rattle.base.proofs.Zeros.{below_outside}
 use Rattle.base.proofs.Links.{join, reach_path}
 use Rattle.links.specs.Rows.{rows_as, most_rows}
-use Rattle.links.proofs.Rounds.{cyclic_as}
+use Rattle.links.proofs.Rounds.{front_cyclic}
 use Rattle.links.specs.Descent.{Safe, safe, subset, grown, AllSafe}
 
 -- what is safe is on no cycle
@@ -68,8 +65,5 @@ module _ {rows : List ℕ} {n : ℕ} where
 pub joined_acyclic : (rows : List ℕ) (n : ℕ) {b : Bool} → n ≤ length rows → AllSafe (take n rows) (length (take n rows)) b → b ≡ true
     → false ≡ (leb n most_rows && cyclic (rows_as rows) n)
 joined_acyclic rows n l h e =
-    let q : length (take n rows) ≡ n = length-take-le n rows l in
-    let c : cyclic (rows_as rows) n ≡ false
-    = sym (cyclic_as (rows_as (take n rows)) (rows_as rows) n (λ j k. get_or-take n rows j 0 k))
-    ∙ safe_acyclic (rows_as (take n rows)) n (λ s k. h.safes e s (omega (arith, q))) in
+    let c = sym (front_cyclic rows n l) ∙ safe_acyclic (rows_as (take n rows)) (length (take n rows)) (h.safes e) in
     rw c (sym (and_none (leb n most_rows)))

@@ -70,35 +70,37 @@ cyclic_as d e n h =
     some_as (λ i. has_bit (reach d n i) i) (λ i. has_bit (reach e n i) i) n
     (λ i l. ap (λ m. has_bit m i) (reach_as d e n h n i (omega arith) l))
 
+-- b is what the code found of the rows after all rounds
+pub own_cyclic : (rows : List ℕ) {all : List ℕ} {b : Bool} → Filled 0 (reach (rows_as rows) (length rows)) (length rows) all (length rows)
+    → b ≡ some (λ i. has_bit (rows_as all i) i) (length all) → b ≡ cyclic (rows_as rows) (length rows)
+unfolding cyclic
+own_cyclic rows {all} f e =
+    e ∙ ap (some (λ i. has_bit (rows_as all i) i)) f.long
+    ∙ some_as (λ i. has_bit (rows_as all i) i) (λ i. has_bit (reach (rows_as rows) (length rows) i) i) (length rows)
+    (λ i k. ap (λ m. has_bit m i) (f.at i k))
+
 -- the first n rows are the rows up to n
 module _ (rows : List ℕ) (n : ℕ) (l : n ≤ length rows) where
-  front_reach : (s : ℕ) → s < n → reach (rows_as (take n rows)) (length (take n rows)) s ≡ reach (rows_as rows) n s
-  front_reach s k =
-      ap (λ m. reach (rows_as (take n rows)) m s) (length-take-le n rows l)
-      ∙ reach_as (rows_as (take n rows)) (rows_as rows) n (λ j h. get_or-take n rows j 0 h) n s (omega arith) k
+  pub front_cyclic : cyclic (rows_as (take n rows)) (length (take n rows)) ≡ cyclic (rows_as rows) n
+  front_cyclic =
+      ap (cyclic (rows_as (take n rows))) (length-take-le n rows l)
+      ∙ cyclic_as (rows_as (take n rows)) (rows_as rows) n (λ j h. get_or-take n rows j 0 h)
 
-  -- what s reaches, where there is such a row; m is what the code found of the first n rows
+  -- the answer of the rounds, where there are no more rows than there may be
+  pub rounds_answer : {b : Bool} → n ≤ most_rows → b ≡ cyclic (rows_as (take n rows)) (length (take n rows))
+      → b ≡ (leb n most_rows && cyclic (rows_as rows) n)
+  rounds_answer h e = e ∙ front_cyclic ∙ rw (le-leb n most_rows h)
+
+  -- what s reaches, where there is such a row
   pub row_reached : {s m : ℕ} → m ≡ reach (rows_as (take n rows)) (length (take n rows)) s → n ≤ most_rows → s < n
       → m ≡ pick (leb n most_rows && ltb s n) (reach (rows_as rows) n s) 0
-  row_reached {s} e h k = e ∙ front_reach s k ∙ rw (le-leb n most_rows h, lt-ltb s n k)
-
-  -- b is what the code found of the first n rows after all rounds
-  pub own_cyclic : {all : List ℕ} {b : Bool}
-      → Filled 0 (reach (rows_as (take n rows)) (length (take n rows))) (length (take n rows)) all (length (take n rows))
-      → b ≡ some (λ i. has_bit (rows_as all i) i) (length all) → b ≡ cyclic (rows_as rows) n
-  unfolding cyclic
-  own_cyclic {all} f e =
-      let q : length (take n rows) ≡ n = length-take-le n rows l in
-      e ∙ ap (λ m. some (λ i. has_bit (rows_as all i) i) m) (f.long ∙ q)
-      ∙ some_as (λ i. has_bit (rows_as all i) i) (λ i. has_bit (reach (rows_as rows) n i) i) n
-      (λ i k. ap (λ m. has_bit m i) (f.at i (omega (arith, q)) ∙ front_reach i k))
+  row_reached {s} e h k =
+      e ∙ ap (λ m. reach (rows_as (take n rows)) m s) (length-take-le n rows l)
+      ∙ reach_as (rows_as (take n rows)) (rows_as rows) n (λ j h. get_or-take n rows j 0 h) n s (omega arith) k
+      ∙ rw (le-leb n most_rows h, lt-ltb s n k)
 
 -- there is no such row
 pub row_none : (rows : List ℕ) (n s : ℕ) → ((n ≤ most_rows) × (n ≤ s)) ⊎ (most_rows < n)
     → 0 ≡ pick (leb n most_rows && ltb s n) (reach (rows_as rows) n s) 0
 row_none rows n s (inl h) = rw (le-leb n most_rows h.0, le-ltb s n h.1)
 row_none rows n s (inr h) = rw (lt-leb n most_rows h)
-
--- and the answer, where there are no more rows than there may be
-pub rounds_answer : (rows : List ℕ) (n : ℕ) (b : Bool) → n ≤ most_rows → b ≡ cyclic (rows_as rows) n → b ≡ (leb n most_rows && cyclic (rows_as rows) n)
-rounds_answer rows n b l e = e ∙ rw (le-leb n most_rows l)

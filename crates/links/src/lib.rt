@@ -49,11 +49,10 @@ fn has_own(rows: &[u64]) -> bool
     (0..rows.len()).any(|i| has_bit(rows[i], i))
 }
 
-fn is_cyclic(n: usize, mut rows: [u64; MAX_ROWS]) -> bool
-    requires { n ≤ most_rows }
-    ensures { result ≡ cyclic (rows_as rows) n }
+// Some number reaches itself; the rows are left as the rounds leave them.
+fn is_cyclic(rows: &mut [u64]) -> bool
+    ensures { result ≡ cyclic (rows_as rows.old) (length rows.old) }
 {
-    let rows = &mut rows[..n];
     reached(rows);
     has_own(rows)
 }
@@ -80,7 +79,7 @@ fn all_join(rows: &[u64]) -> bool
     ensures { AllSafe rows.now (length rows.now) result }
 {
     let n = rows.len();
-    // Nothing is allocated (docs/HOST.md, "Reentrancy"): the stack is an array with its depth beside it.
+    // A depth beside an array: the core allocates nothing (docs/HOST.md, "Reentrancy"), so the stack is no Vec.
     let mut stack = [0u8; MAX_ROWS];
     let mut done: u64 = 0;
     let mut depth: usize = 0;
@@ -112,11 +111,13 @@ fn all_join(rows: &[u64]) -> bool
 }
 
 // Whether there is a cycle: by descent, and only where that does not say that there is none, by rounds.
+// A count beside an array: callers have a row for each service that there may be, and an n past them has an answer too.
 pub fn has_cycle(n: usize, rows: &[u64; MAX_ROWS]) -> bool
     ensures { result ≡ (leb n most_rows && cyclic (rows_as rows.now) n) }
 {
     if n <= MAX_ROWS && !all_join(&rows[..n]) {
-        is_cyclic(n, *rows)
+        let mut all = *rows;
+        is_cyclic(&mut all[..n])
     } else {
         false
     }
@@ -145,6 +146,7 @@ fn spread(rows: &[u64], s: usize) -> u64
 }
 
 // What the number s reaches, or the empty set where there is no such row.
+// A count beside an array: as `has_cycle` has them.
 pub fn reach_of(n: usize, rows: &[u64; MAX_ROWS], s: usize) -> u64
     ensures { result ≡ pick (leb n most_rows && ltb s n) (reach (rows_as rows.now) n s) 0 }
 {

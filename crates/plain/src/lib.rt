@@ -21,6 +21,7 @@ use service::{Action, Answered, MAX_SERVICES, Refusal, State, Table};
 // ---- the calls
 
 // 24 where the numbers stand for no table, or for no state.
+// Two parameters, here and in each call: a host has table and state as arrays of its own, and a struct of both for each call is no plainer.
 fn check(table: &Numbers, state: &Numbers) -> Result<(), u64>
     ensures { result ≡ checked (meant table.now state.now) }
 {
@@ -45,6 +46,7 @@ fn keep<A: Copy>(state: &mut Numbers, called: Answered<A>) -> Result<A, u64>
 fn change(t: Table, x: State, e: Event) -> Answered<()>
     ensures { changed_outcome result ≡ outcome t x (call_of e) }
 {
+    // A match of cases: each call has parameters of its own, and a closure for each is no plainer.
     match e {
         Event::Start(s) => engine::start(t, x, s),
         Event::Stop(s) => engine::stop(t, x, s),
@@ -83,6 +85,7 @@ pub fn next_action(table: &Numbers, state: &mut Numbers) -> Result<Option<Handed
 }
 
 // A run to quiet, with the services and the actions in the two lent slices: how many actions there were.
+// Two slices: `run` of rules.specs.Calls is lent one for the services and one for the actions.
 pub fn run_to_quiet(
     table: &Numbers,
     state: &mut Numbers,
@@ -139,6 +142,7 @@ fn keep_loaded(
 }
 
 // Loads a set, as the loader does: a refusal leaves all that is lent as it was.
+// Two slices: as `load` of loader.specs.Load is lent the bytes and the positions.
 pub fn load(
     lent: &[u8],
     ends: &[usize],

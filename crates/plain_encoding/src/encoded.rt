@@ -17,6 +17,7 @@ pub(crate) trait Encoded: Copy {
         ensures { result ≡ encoded self };
 
     // The value whose numbers begin at a place.
+    // Two parameters: the numbers of a place have no copy of their own, so a place is told by where it begins.
     fn decode(numbers: &Numbers, at: usize) -> Self
         requires { at + per_place ≤ all_numbers }
         ensures { result ≡ decoded numbers.now at };
@@ -53,6 +54,7 @@ impl Encoded for Record {
         ]
     }
 
+    #[tactic(auto, unfolding(crate::specs::Numbers::record_from))]
     fn decode(numbers: &Numbers, at: usize) -> Record {
         Record {
             phase: Phase::from(numbers[at]),
@@ -98,6 +100,7 @@ impl Encoded for Settings {
         ]
     }
 
+    #[tactic(auto, unfolding(service::specs::Numbers::settings_from))]
     fn decode(numbers: &Numbers, at: usize) -> Settings {
         Settings {
             kind: Kind::from(numbers[at]),
@@ -116,20 +119,14 @@ impl Encoded for Settings {
     }
 }
 
-// Puts the numbers of a place from there on.
-fn put(numbers: &mut Numbers, at: usize, line: [u64; EACH])
-    requires { at + per_place ≤ all_numbers }
-    ensures { numbers.new ≡ placed numbers.old at line }
-{
-    numbers[at..at + EACH].copy_from_slice(&line);
-}
-
 // Writes a value to each place. What a read past the last would give does not matter.
 pub(crate) fn write_places<T: Encoded>(numbers: &mut Numbers, values: &[T; MAX_SERVICES])
     ensures { (d : T) → numbers.new ≡ all_written T.encoded numbers.old (λ s. get_or values.now s d) }
 {
     for (s, value) in values.iter().enumerate() {
-        put(numbers, FRONT + EACH * s, value.encode());
+        let at = FRONT + EACH * s;
+        let line = value.encode();
+        numbers[at..at + EACH].copy_from_slice(&line);
     }
 }
 

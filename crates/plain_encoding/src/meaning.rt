@@ -1,5 +1,5 @@
 // Whether numbers stand for a table or a state: they do where they are what is written of the table or the state that they say.
-ghost use Rattle.std.specs.Prelude.{◌≡◌, ◌+◌, ◌≤◌};
+ghost use Rattle.std.specs.Prelude.{◌≡◌, ◌+◌, ◌≤◌, ◌&&◌, eqb, get_or};
 ghost use Rattle.plain_encoding.specs.Numbers.{all_numbers, per_place};
 ghost use Rattle.plain_encoding.specs.Encoding.{all_stand};
 ghost use Rattle.plain_encoding.specs.Meaning.{stand_as, is_state, is_table};
@@ -17,22 +17,24 @@ fn is_meant<T: Encoded>(numbers: &Numbers, at: usize) -> bool
     numbers[at..at + EACH] == line[..]
 }
 
-fn all_meant<T: Encoded>(numbers: &Numbers) -> bool
-    ensures { result ≡ all_stand T.encoded T.decoded numbers.now }
+// Nothing stands in front but the first number, and each place has the numbers of what it says.
+fn stands_for<T: Encoded>(numbers: &Numbers) -> bool
+    ensures { result ≡ (eqb (get_or numbers.now 1 0) 0 && all_stand T.encoded T.decoded numbers.now) }
 {
-    (0..MAX_SERVICES).all(|s| is_meant::<T>(numbers, FRONT + EACH * s))
+    numbers[1] == 0 && (0..MAX_SERVICES).all(|s| is_meant::<T>(numbers, FRONT + EACH * s))
 }
 
 // The numbers stand for a state.
 pub fn is_state(numbers: &Numbers) -> bool
     ensures { result ≡ is_state numbers.now }
 {
-    numbers[1] == 0 && all_meant::<Record>(numbers)
+    stands_for::<Record>(numbers)
 }
 
 // The numbers stand for a table.
+// Two functions: docs/HOST.md names them both.
 pub fn is_table(numbers: &Numbers) -> bool
     ensures { result ≡ is_table numbers.now }
 {
-    numbers[1] == 0 && all_meant::<Settings>(numbers)
+    stands_for::<Settings>(numbers)
 }

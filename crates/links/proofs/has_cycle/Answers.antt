@@ -7,7 +7,7 @@ use Rattle.links.proofs.has_cycle.Goals as goal
 use Rattle.links.proofs.has_cycle.Goals.{else-n-le-MAX_ROWS-via-then-n-le-MAX_ROWS+else-not-all_join, else-n-le-MAX_ROWS-via-else-n-le-MAX_ROWS}
 
 pub returns-then-not-all_join : goal.returns-then-not-all_join
-returns-then-not-all_join c = search rounds_answer
+returns-then-not-all_join c = rounds_answer _ _ (omega arith) c.if-n-le-MAX_ROWS.true c.is_cyclic.ensures
 
 pub returns-else-n-le-MAX_ROWS : goal.returns-else-n-le-MAX_ROWS
 returns-else-n-le-MAX_ROWS c =

@@ -1,13 +1,8 @@
--- `is_table` meets its contract: nothing stands in front but the first number, and each place has the numbers of what it says.
-use borrow.Author.Tests.{ne_eqb}
+-- `is_table` meets its contract: it is the test of its encoding.
 use Rattle.plain_encoding.specs.Encoding.{all_stand}
 use Rattle.plain_encoding.specs.Meaning.{is_table, is_settings}
 use Rattle.plain_encoding.proofs.meaning.is_table.Goals as goal
 
-pub returns-then-numbers-eq0 : goal.returns-then-numbers-eq0
+pub returns : goal.returns
 unfolding all_stand is_table is_settings
-returns-then-numbers-eq0 c = rw c.if-numbers-eq0.true c.all_meant.ensures
-
-pub returns-else-numbers-eq0 : goal.returns-else-numbers-eq0
-unfolding is_table
-returns-else-numbers-eq0 c = rw (ne_eqb _ _ c.if-numbers-eq0.false)
+returns c = c.stands_for.ensures
