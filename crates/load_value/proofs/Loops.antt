@@ -11,7 +11,7 @@ use Rattle.load_value.specs.declared.Mode.{Mode}
 use Rattle.load_value.specs.declared.Step.{Step}
 use Rattle.load_value.specs.declared.Step.TheVariants.{Skip, Quote, Keep, Close, Malformed}
 use Rattle.load_value.specs.declared.Sizes.{Sizes}
-use Rattle.std.specs.Prelude.{Result, Err}
+use Rattle.std.specs.Prelude.{Result, Ok, Err}
 use Rattle.load_text.specs.declared.Fault.{Fault}
 use Rattle.load_text.specs.declared.Wrong.TheVariants.{Malformed as IsMalformed}
 use Rattle.load_value.specs.Steps.{between, step_of}
@@ -37,8 +37,22 @@ module _ {s : List ℕ} {m : Mode} {z : Sizes} {q i : ℕ} (k : Told s m z q i) 
   pub told_room : length s * 1 < 9223372036854775808 → z.room < 9223372036854775808
   told_room n = omega (arith, k.fits.room, k.within)
 
-  pub told_end : {v : Result Sizes Fault} → length s ≤ i → v ≡ scanned (ended m q i) (pick m.token (counted z close) z) → v ≡ scan_of s
-  told_end h e = e ∙ sym (k.rest ∙ scan_end m q i z s i h)
+  -- at the end the mode decides
+  module _ (h : length s ≤ i) where
+    told_last : {v : Result (Unit {0}) Fault} → ended m q (length s) ≡ v → scan_of s ≡ scanned v (pick m.token (counted z close) z)
+    told_last {v} e =
+        let n : i ≡ length s = omega (arith, k.within) in
+        let at : ended m q i ≡ v = rw n e in
+        k.rest ∙ scan_end m q i z s i h ∙ ap (λ v. scanned v (pick m.token (counted z close) z)) at
+
+    pub told_fault : {f : Fault} → ended m q (length s) ≡ Err f → Err f ≡ scan_of s
+    told_fault e = sym (told_last e)
+
+    pub told_closed : {y : Sizes} → ended m q (length s) ≡ Ok tt → m.token ≡ true → y ≡ counted z close → Ok y ≡ scan_of s
+    told_closed e t p = sym (told_last e ∙ rw (t, p))
+
+    pub told_all : ended m q (length s) ≡ Ok tt → m.token ≡ false → Ok z ≡ scan_of s
+    told_all e t = sym (told_last e ∙ rw t)
 
   module _ {r : Step} (h : i < length s) (e : r ≡ step_of m (get_or s i 0)) where
     told_on : {r' : Step} → r ≡ r' → scan_of s ≡ scan_on r' q i z (drop (i + 1) s)

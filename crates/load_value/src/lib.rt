@@ -4,8 +4,7 @@
 ghost use Rattle.std.specs.Prelude.{◌≡◌, ◌<◌, ◌≤◌};
 ghost use Rattle.load_value.specs.Steps.{bare_step, quote_step, step_of};
 ghost use Rattle.load_value.specs.Stores.{Put, Puts};
-ghost use Rattle.base.specs.Folds.{pick};
-ghost use Rattle.load_value.specs.Values.{kept, close, counted, ended, scanned, scan_of, written, word_of};
+ghost use Rattle.load_value.specs.Values.{kept, close, counted, ended, scan_of, written, word_of};
 
 use load_text::{Fault, LONGEST_NAME, Wrong, is_white};
 
@@ -22,16 +21,6 @@ pub struct Mode {
     pub quoted: bool,
     pub token: bool,
     pub comment: bool,
-}
-
-impl Mode {
-    // How a value begins, and where white space leaves it: no token is open.
-    const BETWEEN: Mode = Mode {
-        escaped: false,
-        quoted: false,
-        token: false,
-        comment: false,
-    };
 }
 
 // What a byte does, with the next mode: nothing more, open a quoted stretch, be kept, or end a token; or it is malformed.
@@ -52,76 +41,99 @@ pub struct Sizes {
     pub first: usize,
 }
 
-// A byte outside quotes that is neither escaped nor a backslash nor a quote.
-#[tactic(auto, unfolding(crate::specs::Steps::bare_step))]
-fn bare_step(m: Mode, b: u8) -> Step
-    ensures { result ≡ bare_step m b }
-{
-    if is_white(b) {
-        if m.token {
-            return Step::Close(Mode::BETWEEN);
-        }
-        return Step::Skip(Mode::BETWEEN);
-    }
-    if b == b'#' {
-        if m.token {
-            return Step::Malformed;
-        }
-        return Step::Skip(Mode {
-            comment: true,
-            ..Mode::BETWEEN
-        });
-    }
-    Step::Keep(Mode {
-        token: true,
-        ..Mode::BETWEEN
-    })
-}
-
-fn quote_step(m: Mode) -> Step
-    ensures { result ≡ quote_step m }
-{
-    // A closing quote leaves the token open.
-    let stretch = Mode {
-        quoted: !m.quoted,
-        token: true,
-        ..Mode::BETWEEN
+impl Mode {
+    // How a value begins, and where white space leaves it: no token is open.
+    const BETWEEN: Mode = Mode {
+        escaped: false,
+        quoted: false,
+        token: false,
+        comment: false,
     };
-    if m.quoted {
-        return Step::Skip(stretch);
-    }
-    Step::Quote(stretch)
-}
 
-// What a byte of a value does.
-#[tactic(auto, unfolding(crate::specs::Steps::step_of))]
-fn step_at(m: Mode, b: u8) -> Step
-    ensures { result ≡ step_of m b }
-{
-    if m.comment {
-        return Step::Skip(m);
-    }
-    if m.escaped {
-        return Step::Keep(Mode {
-            escaped: false,
+    // A byte outside quotes that is neither escaped nor a backslash nor a quote.
+    #[tactic(auto, unfolding(crate::specs::Steps::bare_step))]
+    fn bare_step(self, b: u8) -> Step
+        ensures { result ≡ bare_step self b }
+    {
+        if is_white(b) {
+            if self.token {
+                return Step::Close(Mode::BETWEEN);
+            }
+            return Step::Skip(Mode::BETWEEN);
+        }
+        if b == b'#' {
+            if self.token {
+                return Step::Malformed;
+            }
+            return Step::Skip(Mode {
+                comment: true,
+                ..Mode::BETWEEN
+            });
+        }
+        Step::Keep(Mode {
             token: true,
-            ..m
-        });
+            ..Mode::BETWEEN
+        })
     }
-    if b == b'\\' {
-        return Step::Skip(Mode {
-            escaped: true,
+
+    fn quote_step(self) -> Step
+        ensures { result ≡ quote_step self }
+    {
+        // A closing quote leaves the token open.
+        let stretch = Mode {
+            quoted: !self.quoted,
             token: true,
-            ..m
-        });
+            ..Mode::BETWEEN
+        };
+        if self.quoted {
+            return Step::Skip(stretch);
+        }
+        Step::Quote(stretch)
     }
-    if b == b'"' {
-        return quote_step(m);
+
+    // What a byte of a value does.
+    #[tactic(auto, unfolding(crate::specs::Steps::step_of))]
+    fn step(self, b: u8) -> Step
+        ensures { result ≡ step_of self b }
+    {
+        if self.comment {
+            return Step::Skip(self);
+        }
+        if self.escaped {
+            return Step::Keep(Mode {
+                escaped: false,
+                token: true,
+                ..self
+            });
+        }
+        if b == b'\\' {
+            return Step::Skip(Mode {
+                escaped: true,
+                token: true,
+                ..self
+            });
+        }
+        if b == b'"' {
+            return self.quote_step();
+        }
+        if self.quoted {
+            return Step::Keep(self);
+        }
+        self.bare_step(b)
     }
-    if m.quoted {
-        return Step::Keep(m);
+
+    // Whether a value may end in this mode, at a place, with its last quote. A last backslash comes before an open quote.
+    fn ended(self, quote: usize, end: usize) -> Result<(), Fault>
+        ensures { result ≡ ended self quote end }
+    {
+        if self.escaped {
+            return Err(Wrong::LastBackslash.at(end.saturating_sub(1)));
+        }
+        if self.quoted {
+            return Err(Wrong::OpenQuote.at(quote));
+        }
+        Ok(())
     }
-    bare_step(m, b)
 }
 
 impl Sizes {
@@ -160,22 +172,11 @@ impl Sizes {
     }
 }
 
-// What a value is that ends in a mode, at a place, with its last quote and its sizes so far. A last backslash comes before an open quote.
-fn ended(m: Mode, quote: usize, end: usize, z: Sizes) -> Result<Sizes, Fault>
-    requires { (z.room < 9223372036854775808) × (z.tokens ≤ z.room) }
-    ensures { result ≡ scanned (ended m quote end) (pick m.token (counted z close) z) }
-{
-    if m.escaped {
-        return Err(Wrong::LastBackslash.at(end.saturating_sub(1)));
-    }
-    if m.quoted {
-        return Err(Wrong::OpenQuote.at(quote));
-    }
-    Ok(if m.token { z.with_end() } else { z })
-}
+// The scan and the two writers below walk the same steps, each with a match of its own: one walk for all three would take a closure that stores into
+// what it captures (sizes, buffer), and its contract, FoldsTo over the closure's states, would stand in each of them beside what it is to mean.
 
 // What a value is: the sizes of its tokens, or its first fault.
-#[tactic(auto, using(crate::proofs::Loops::told_none, crate::proofs::Loops::told_skip, crate::proofs::Loops::told_quote, crate::proofs::Loops::told_keep, crate::proofs::Loops::told_close, crate::proofs::Loops::told_bad, crate::proofs::Loops::told_end))]
+#[tactic(auto, using(crate::proofs::Loops::told_none, crate::proofs::Loops::told_skip, crate::proofs::Loops::told_quote, crate::proofs::Loops::told_keep, crate::proofs::Loops::told_close, crate::proofs::Loops::told_bad, crate::proofs::Loops::told_fault, crate::proofs::Loops::told_all))]
 pub fn scan_value(s: &[u8]) -> Result<Sizes, Fault>
     ensures { result ≡ scan_of s.now }
 {
@@ -183,7 +184,7 @@ pub fn scan_value(s: &[u8]) -> Result<Sizes, Fault>
     let mut z = Sizes::NONE;
     let mut quote: usize = 0;
     for (i, &b) in s.iter().enumerate() {
-        match step_at(m, b) {
+        match m.step(b) {
             Step::Skip(k) => m = k,
             Step::Quote(k) => {
                 quote = i;
@@ -200,7 +201,8 @@ pub fn scan_value(s: &[u8]) -> Result<Sizes, Fault>
             Step::Malformed => return Err(Wrong::Malformed.at(i)),
         }
     }
-    ended(m, quote, s.len(), z)
+    m.ended(quote, s.len())?;
+    Ok(if m.token { z.with_end() } else { z })
 }
 
 // Stores a byte where there is room, and returns the next place.
@@ -223,7 +225,7 @@ pub fn write_value(s: &[u8], buffer: &mut [u8]) -> usize
     let mut m = Mode::BETWEEN;
     let mut o: usize = 0;
     for &b in s {
-        match step_at(m, b) {
+        match m.step(b) {
             Step::Skip(k) | Step::Quote(k) => m = k,
             Step::Keep(k) => {
                 o = put(buffer, o, b);
@@ -250,7 +252,7 @@ pub fn write_word(s: &[u8], buffer: &mut [u8]) -> usize
     let mut m = Mode::BETWEEN;
     let mut o: usize = 0;
     for &b in s {
-        match step_at(m, b) {
+        match m.step(b) {
             Step::Skip(k) | Step::Quote(k) => m = k,
             Step::Keep(k) => {
                 if LONGEST_WORD < o {

@@ -8,7 +8,7 @@ loop-b-init c = search written_none
 
 pub loop-b-preserved : goal.loop-b-preserved
 loop-b-preserved c =
-    elim c.match-step_at.branch [
+    elim c.match-step.branch [
       | in-Keep w ↦ rw (w.buffer-is, w.m-is, w.o-is) (search written_keep)
       | in-Close w ↦ rw (w.buffer-is, w.m-is, w.o-is) (search written_close)
       | in-Skip w ↦ rw (w.buffer-is, w.m-is, w.o-is) (search (written_skip, written_quote))

@@ -13,13 +13,13 @@ returns-then-o-gt-LONGEST_WORD c = search worded_full
 pub returns-in-Close : goal.returns-in-Close
 returns-in-Close c =
     elim c.in-Close.is [
-      | inl p ↦ worded_close c.loop-b.invariant c.loop-b-test.true c.step_at.ensures p.1
-      | inr q ↦ worded_bad c.loop-b.invariant c.loop-b-test.true c.step_at.ensures q
+      | inl p ↦ worded_close c.loop-b.invariant c.loop-b-test.true c.step.ensures p.1
+      | inr q ↦ worded_bad c.loop-b.invariant c.loop-b-test.true c.step.ensures q
     ]
 
 pub loop-b-preserved : goal.loop-b-preserved
 loop-b-preserved c =
-    elim c.match-step_at.branch [
+    elim c.match-step.branch [
       | in-Keep+else-o-gt-LONGEST_WORD w ↦ rw (w.buffer-is, w.m-is, w.o-is) (search worded_keep)
       | in-Skip w ↦ rw (w.buffer-is, w.m-is, w.o-is) (search (worded_skip, worded_quote))
       | in-Skip-2 w ↦ rw (w.buffer-is, w.m-is, w.o-is) (search (worded_skip, worded_quote))
