@@ -115,6 +115,10 @@ CALLED = {'input': 'stdin', 'output': 'stdout', 'files': 'data'}
 # What README.md names of each demand, so that a reader needs no other page to find it.
 ON_README = ['refusal_leaves_all', 'refused_load_leaves_all', 'load', 'outcome', 'Guarantee', 'guarantee']
 
+# The pages that say how something was when it was done: a file of a crate that they name may have gone since.
+RECORDS = ['docs/PORT.md', 'docs/DESIGN-PASS.md']
+OF_A_CRATE = re.compile(r'(?:crates/\w+/)?(?:src|specs|proofs|must-fail)/')
+
 # Quoted words of a page that are nobody's declaration: programs, libraries and words of the toolchain's verdict, signs of Rattle's own.
 FOREIGN = {'Result', 'Ok', 'Err', 'Option', 'rt', 'cargo', 'python3', 'valgrind', 'std', 'check', 'requires', 'ensures', 'specs', 'proofs', 'memcpy'}
 
@@ -243,6 +247,8 @@ class Check:
             named += [q for q in quoted(self.whole[page]) if re.fullmatch(r'[\w\-]+\.\w+', q) and q.endswith(KNOWN)]
             for path in named:
                 if 'target/' in path or path in BUILT or re.search(r'(?:^|/)[A-Z_]+(?:/|$)', path):
+                    continue
+                if page in RECORDS and OF_A_CRATE.match(path):
                     continue
                 if not any(self.tree.exists(os.path.join(base, path)) for base in ['', folder, 'crates'] + homes):
                     self.fault(page, f'there is no {path}')
