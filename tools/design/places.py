@@ -383,14 +383,14 @@ class Places:
             bare = [v for p, v in arms if not re.search(r"[({]", p)]
             if len(arms) == 2 and len(bare) == 1 and bare[0] in ("0", "true", "false") and not any("|" in p for p, _ in arms) and not all(v in ("true", "false") for _, v in arms):
                 self.add(4, f.file, f.at, "`unwrap_or` or `is_some_and` by a match")
-            if re.fullmatch(rf"\s*\w+ as {NUMBER}\s*", f.body) and not f.trait:
+            if re.fullmatch(rf"\s*(?!self)\w+ as {NUMBER}\s*", f.body) and not f.trait:
                 self.add(4, f.file, f.at, "a cast as a function")
             words = re.findall(r"\b(?:write|print|put)\w*\((?:\w+, )+b\"_*\"\)", f.body)
             if len(words) > 2 and not arms:
                 self.add(4, f.file, f.at, "printing piece by piece", f"{f.name}: {len(words)} pieces")
             for m in re.finditer(r"(?<![\w:])(?:[A-Z]\w+|Self) \{((?:[^{}]|\{[^{}]*\})*)\}", f.body):
                 copied = collections.Counter(b for a, b, c in re.findall(r"(?:^|[\s,{])(\w+): (\w+)\.(\w+)(?=\s*[,}\n]|$)", m.group(1)) if a == c and b != "self")
-                if copied and max(copied.values()) > 1:
+                if copied and max(copied.values()) > 1 and ".." not in m.group(1):
                     self.add(4, f.file, f.start + m.start(), "fields copied one by one")
             for _, head, body, at in self.loops(f):
                 if re.search(r"\w+\[[^\]]*\] [=!]= \w+\[[^\]]*\](?!\])", body) and f.result == "bool":
