@@ -79,11 +79,11 @@ fn all_join(rows: &[u64]) -> bool
     ensures { AllSafe rows.now (length rows.now) result }
 {
     let n = rows.len();
-    // A depth beside an array: the core allocates nothing (docs/HOST.md, "Reentrancy"), so the stack is no Vec.
     let mut stack = [0u8; MAX_ROWS];
     let mut done: u64 = 0;
     let mut depth: usize = 0;
     let mut s: usize = 0;
+    // A depth beside an array: the core allocates nothing (docs/HOST.md, "Reentrancy"), so the stack is no Vec.
     for _ in 0..2 * n {
         if n <= s {
             return n <= lowest_outside(done);
