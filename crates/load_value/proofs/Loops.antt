@@ -2,7 +2,7 @@
 use mathlib.Core.Path.{◌≡◌, refl, sym, ap, ◌∙◌}
 use mathlib.Core.Bool.{true, false}
 use mathlib.Core.List.{List}
-use Prim.Native.Nat.{ℕ, ◌+◌, ◌*◌, ◌≤◌, ◌<◌}
+use Prim.Native.Nat.{ℕ, ◌+◌, ◌≤◌, ◌<◌}
 use native.Mathlib.Omega.{arith}
 use lib.ListN.{length, get_or, drop}
 use Rattle.base.specs.Folds.{pick}
@@ -34,9 +34,6 @@ unfolding scan_of
 told_none s = record { within = omega arith; fits = record { tokens = omega arith; first = omega arith; room = omega arith }; rest = refl }
 
 module _ {s : List ℕ} {m : Mode} {z : Sizes} {q i : ℕ} (k : Told s m z q i) where
-  pub told_room : length s * 1 < 9223372036854775808 → z.room < 9223372036854775808
-  told_room n = omega (arith, k.fits.room, k.within)
-
   -- at the end the mode decides
   module _ (h : length s ≤ i) where
     told_last : {v : Result (Unit {0}) Fault} → ended m q (length s) ≡ v → scan_of s ≡ scanned v (pick m.token (counted z close) z)

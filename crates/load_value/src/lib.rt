@@ -176,7 +176,7 @@ impl Sizes {
 // what it captures (sizes, buffer), and its contract, FoldsTo over the closure's states, would stand in each of them beside what it is to mean.
 
 // What a value is: the sizes of its tokens, or its first fault.
-#[tactic(auto, using(crate::proofs::Loops::told_none, crate::proofs::Loops::told_skip, crate::proofs::Loops::told_quote, crate::proofs::Loops::told_keep, crate::proofs::Loops::told_close, crate::proofs::Loops::told_bad, crate::proofs::Loops::told_fault, crate::proofs::Loops::told_all))]
+#[tactic(auto, using(crate::proofs::Loops::told_bad, crate::proofs::Loops::told_fault, crate::proofs::Loops::told_all))]
 pub fn scan_value(s: &[u8]) -> Result<Sizes, Fault>
     ensures { result ≡ scan_of s.now }
 {
@@ -218,7 +218,7 @@ fn put(buffer: &mut [u8], at: usize, b: u8) -> usize
 
 // Writes a value's tokens from the start of buffer, each followed by a zero byte, and returns the place past them. What does
 // not fit is dropped.
-#[tactic(auto, using(crate::proofs::Loops::written_none, crate::proofs::Loops::written_skip, crate::proofs::Loops::written_quote, crate::proofs::Loops::written_keep, crate::proofs::Loops::written_close, crate::proofs::Loops::written_bad, crate::proofs::Loops::written_closed, crate::proofs::Loops::written_all))]
+#[tactic(auto, using(crate::proofs::Loops::written_bad, crate::proofs::Loops::written_all))]
 pub fn write_value(s: &[u8], buffer: &mut [u8]) -> usize
     ensures { Puts buffer.old 0 (written s.now) buffer.new result }
 {
@@ -245,7 +245,7 @@ pub fn write_value(s: &[u8], buffer: &mut [u8]) -> usize
 }
 
 // Writes the word that a value begins with from the start of buffer, and returns its length. What does not fit is dropped.
-#[tactic(auto, using(crate::proofs::Loops::worded_none, crate::proofs::Loops::worded_skip, crate::proofs::Loops::worded_quote, crate::proofs::Loops::worded_keep, crate::proofs::Loops::worded_full, crate::proofs::Loops::worded_close, crate::proofs::Loops::worded_bad, crate::proofs::Loops::worded_end))]
+#[tactic(auto, using(crate::proofs::Loops::worded_end))]
 pub fn write_word(s: &[u8], buffer: &mut [u8]) -> usize
     ensures { Puts buffer.old 0 (word_of s.now) buffer.new result }
 {

@@ -1,8 +1,11 @@
 -- `scan_value` meets its contract: the answer for what is left, from what was read so far.
 use mathlib.Core.Path.{sym, ◌∙◌}
-use Rattle.load_value.proofs.Loops.{told_skip, told_quote, told_keep, told_close, told_closed}
+use Rattle.load_value.proofs.Loops.{told_none, told_skip, told_quote, told_keep, told_close, told_closed}
 use Rattle.load_value.proofs.scan_value.Goals as goal
 use Rattle.load_value.proofs.scan_value.Goals.{in-Skip, in-Quote, in-Keep, in-Close}
+
+pub loop-i-init : goal.loop-i-init
+loop-i-init c = search told_none
 
 pub loop-i-preserved : goal.loop-i-preserved
 loop-i-preserved c =
