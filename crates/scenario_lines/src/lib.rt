@@ -6,7 +6,7 @@ ghost use Rattle.std.specs.Prelude.{◌≡◌, ◌≤◌};
 ghost use Rattle.std.specs.List.{slice_get};
 ghost use Rattle.scenario_words.specs.Pieces.{pieces_of};
 ghost use Rattle.scenario_lines.specs.Forms.{named_verbs, most_of, value_of, value_at, begins_as, fits_form, form_of, read_form};
-ghost use Rattle.scenario_lines.specs.Lines.{most_positions, are_numbers, read_load, read_parted, opening_of, read_any, has_needed, read_after, command_of};
+ghost use Rattle.scenario_lines.specs.Lines.{most_positions, are_numbers, read_load, read_parted, opening_of, has_needed, command_of};
 
 use load_text::{byte_at, same_bytes, tail};
 use scenario_words::{number, number_to, piece, pieces, place};
@@ -271,20 +271,6 @@ fn opening(line: &[u8]) -> Option<Verb>
     }
 }
 
-// A line by itself.
-fn read_any(forms: &[u8], line: &[u8]) -> Option<Command>
-    ensures { result ≡ read_any (pieces_of 10 forms.now) line.now }
-{
-    match opening(line) {
-        Some(verb) => Some(Command {
-            verb,
-            first: 0,
-            last: 0,
-        }),
-        None => read_parted(forms, line),
-    }
-}
-
 // A line comes after what it needs: a service for a text, a loaded set for all but a load and what has no answer.
 fn has_needed(verb: Verb, begun: bool, loaded: bool) -> bool
     ensures { result ≡ has_needed verb begun loaded }
@@ -296,17 +282,19 @@ fn has_needed(verb: Verb, begun: bool, loaded: bool) -> bool
     }
 }
 
-// A line after what came before it: whether a service was begun, and whether a set is loaded.
-fn read_after(forms: &[u8], line: &[u8], begun: bool, loaded: bool) -> Option<Command>
-    ensures { result ≡ read_after (pieces_of 10 forms.now) line.now begun loaded }
-{
-    read_any(forms, line).filter(|command| has_needed(command.verb, begun, loaded))
-}
-
-// A line without its newline. There is none where it is bad: where it fits no form, or comes before what it needs.
+// A line without its newline, after what came before it: whether a service was begun, and whether a set is loaded. There
+// is none where it is bad: where it fits no form, or comes before what it needs.
 #[tactic(auto, unfolding(load_text::specs::Strings::bytes, scenario_words::specs::Pieces::pieces_of, crate::specs::Forms::forms))]
 pub fn read_line(line: &[u8], begun: bool, loaded: bool) -> Option<Command>
     ensures { result ≡ command_of line.now begun loaded }
 {
-    read_after(&FORMS, line, begun, loaded)
+    let command = match opening(line) {
+        Some(verb) => Command {
+            verb,
+            first: 0,
+            last: 0,
+        },
+        None => read_parted(&FORMS, line)?,
+    };
+    has_needed(command.verb, begun, loaded).then_some(command)
 }

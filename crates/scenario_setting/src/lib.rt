@@ -66,39 +66,20 @@ fn setting_place(line: usize) -> usize
     }
 }
 
-// Sets what a line sets of the state. The lines that set a record stand in the order of its numbers.
-fn set_state(state: &mut Numbers, verb: Verb, s: u64, n: u64)
-    ensures { state.new ≡ state_after state.old verb s n }
-{
-    match verb {
-        Verb::SetClock => state[0] = n,
-        Verb::SetRecord(place) if place < RECORD_LINES => set_record(state, s, place, n),
-        _ => {}
-    }
-}
-
-// Sets what a line sets of the table.
-fn set_table(table: &mut Numbers, verb: Verb, s: u64, n: u64)
-    ensures { table.new ≡ table_after table.old verb s n }
-{
-    match verb {
-        Verb::SetCount => table[0] = n,
-        Verb::SetTable(line) if line < SETTING_LINES => set_number(
-            table,
-            s,
-            setting_place(line),
-            n,
-        ),
-        _ => {}
-    }
-}
-
-// Sets what a line sets; another line sets nothing.
+// Sets what a line sets; another line sets nothing. The lines that set a record stand in the order of its numbers.
 pub fn set(table: &mut Numbers, state: &mut Numbers, command: Command)
     ensures table_after { table.new ≡ table_after table.old command.verb command.first command.last }
     ensures state_after { state.new ≡ state_after state.old command.verb command.first command.last }
 {
-    let Command { verb, first, last } = command;
-    set_table(table, verb, first, last);
-    set_state(state, verb, first, last);
+    let s = command.first;
+    let n = command.last;
+    match command.verb {
+        Verb::SetClock => state[0] = n,
+        Verb::SetRecord(place) if place < RECORD_LINES => set_record(state, s, place, n),
+        Verb::SetCount => table[0] = n,
+        Verb::SetTable(line) if line < SETTING_LINES => {
+            set_number(table, s, setting_place(line), n);
+        }
+        _ => {}
+    }
 }
