@@ -169,24 +169,45 @@ fn value(form: &[u8], given: &[u8]) -> Option<u64>
     }
 }
 
-fn value_at(form: &[u8], line: &[u8], k: usize) -> Option<u64>
-    ensures { result ≡ value_at form.now line.now k }
-{
-    value(piece(form, b' ', k), piece(line, b' ', k))
+// A line held to a form, word by word.
+#[derive(Clone, Copy)]
+struct Held<'a> {
+    form: &'a [u8],
+    line: &'a [u8],
 }
 
-// The first words of a line fit those of a form.
-fn begins_as(form: &[u8], line: &[u8], count: usize) -> bool
-    ensures { result ≡ begins_as form.now line.now count }
-{
-    (0..count).all(|k| value_at(form, line, k).is_some())
-}
+impl Held<'_> {
+    fn value_at(&self, k: usize) -> Option<u64>
+        ensures { result ≡ value_at self.now.form.now self.now.line.now k }
+    {
+        value(piece(self.form, b' ', k), piece(self.line, b' ', k))
+    }
 
-fn fits_form(form: &[u8], line: &[u8]) -> bool
-    ensures { result ≡ fits_form form.now line.now }
-{
-    let count = pieces(form, b' ');
-    pieces(line, b' ') == count && begins_as(form, line, count)
+    // The first words of the line fit those of the form.
+    fn begins_as(&self, count: usize) -> bool
+        ensures { result ≡ begins_as self.now.form.now self.now.line.now count }
+    {
+        (0..count).all(|k| self.value_at(k).is_some())
+    }
+
+    fn fits(&self) -> bool
+        ensures { result ≡ fits_form self.now.form.now self.now.line.now }
+    {
+        let count = pieces(self.form, b' ');
+        pieces(self.line, b' ') == count && self.begins_as(count)
+    }
+
+    // What a line that fits asks for.
+    fn read(&self, verb: Verb) -> Command
+        ensures { result ≡ read_form self.now.form.now self.now.line.now verb }
+    {
+        let end = pieces(self.form, b' ').saturating_sub(1);
+        Command {
+            verb,
+            first: self.value_at(1).unwrap_or(0),
+            last: self.value_at(end).unwrap_or(0),
+        }
+    }
 }
 
 // The place of the first form that a line fits.
@@ -195,19 +216,7 @@ fn form_of(forms: &[u8], line: &[u8]) -> Option<usize>
 {
     forms
         .split(|b| *b == b'\n')
-        .position(|form| fits_form(form, line))
-}
-
-// A line that fits a form.
-fn read_form(form: &[u8], line: &[u8], verb: Verb) -> Command
-    ensures { result ≡ read_form form.now line.now verb }
-{
-    let end = pieces(form, b' ').saturating_sub(1);
-    Command {
-        verb,
-        first: value_at(form, line, 1).unwrap_or(0),
-        last: value_at(form, line, end).unwrap_or(0),
-    }
+        .position(|form| Held { form, line }.fits())
 }
 
 // The positions of a load, its words from the third on, are numbers.
@@ -228,10 +237,11 @@ fn read_load(line: &[u8]) -> Option<Command>
         return None;
     }
     let positions = count - 2;
-    if begins_as(LOAD, line, 2) && are_numbers(line, positions) {
+    let held = Held { form: LOAD, line };
+    if held.begins_as(2) && are_numbers(line, positions) {
         Some(Command {
             verb: Verb::LoadAt,
-            first: value_at(LOAD, line, 1).unwrap_or(0),
+            first: held.value_at(1).unwrap_or(0),
             last: positions as u64,
         })
     } else {
@@ -246,7 +256,8 @@ fn read_parted(forms: &[u8], line: &[u8]) -> Option<Command>
     match form_of(forms, line) {
         Some(place) => {
             let verb = verb_at(place)?;
-            Some(read_form(piece(forms, b'\n', place), line, verb))
+            let form = piece(forms, b'\n', place);
+            Some(Held { form, line }.read(verb))
         }
         None => read_load(line),
     }
