@@ -14,6 +14,7 @@ use service::MAX_SERVICES;
 
 // What a line asks for: the verb of the form that it fits, in the order of the forms, or one that a first byte or word tells. A line
 // that sets a number of a record or of a service's settings has its place among those.
+// A case: `Nothing` is a line that the format has (docs/SCENARIO.md), and no missing one.
 #[derive(Clone, Copy, PartialEq, Eq)]
 pub enum Verb {
     Next,
@@ -54,6 +55,7 @@ pub const MOST_POSITIONS: usize = 2 * (MAX_SERVICES + 3);
 
 // The forms, one on a line: # stands for a number, #256 for one up to 256, #service for one that a service may have, and | separates the words
 // of which a line has one.
+// A constant: scripts/people/play_lines.py reads the forms in this form.
 const FORMS: [u8; 740] = *b"next
 run
 run #256 #256

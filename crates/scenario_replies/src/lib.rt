@@ -12,6 +12,7 @@ use plain::Handed;
 //
 // In an answer # stands for a number, M for the members of a set, ~ for a number that is not shown, and another capital for the
 // name at that place of a list.
+// A constant: `texts` promises them as one text, as docs/SCENARIO.md has them.
 pub const TEXTS: [u8; 703] = *b"ok
 ok #
 refused #
@@ -74,6 +75,7 @@ pub enum Text {
 
 impl Text {
     // The place of a text among the texts.
+    // A method: its contract ties each name to its text, which a cast alone does not.
     pub fn place(self) -> usize
         ensures { result ≡ place self }
     {
@@ -154,6 +156,7 @@ pub fn bad_reply(number: u64) -> Reply
     reply_of(Text::BadLine, number, 0)
 }
 
+// A number: `plain` gives a refusal as its number in paper 01, and it is told as that.
 pub fn refused_reply(refusal: u64) -> Reply
     ensures { result ≡ refused_reply refusal }
 {
@@ -171,6 +174,7 @@ pub fn event_reply(answer: Result<(), u64>) -> Reply
 }
 
 // The text of an action by its number: three kinds, and then the signals.
+// A number: `plain` hands an action out as one, and a run writes it into an array of them.
 pub fn action_text(action: u64) -> Text
     ensures { result ≡ action_text action }
 {
@@ -189,6 +193,7 @@ pub fn action_signal(action: u64) -> u64
     action.saturating_sub(3)
 }
 
+// A match: quiet, an action and a refusal have different numbers, and closures for them are no plainer.
 pub fn next_reply(next: Result<Option<Handed>, u64>) -> Reply
     ensures { result ≡ next_reply next }
 {

@@ -29,6 +29,7 @@ pub const POSITIONS: usize = MOST_POSITIONS + 2 * KEPT_SERVICES;
 
 // How many services were begun; how many bytes are kept, how many of these are the last service's text, and the names and texts, as far
 // as they are kept; and the positions.
+// A count: a load is lent names and texts of any length in one buffer, and the core allocates nothing.
 #[derive(Drop)]
 pub struct Given {
     pub begun: usize,
@@ -114,6 +115,7 @@ impl Given {
     }
 
     // Takes what a line gives, which is lent with the newline that ends it: a name, or a piece of a text with or without the newline.
+    // A match: each verb takes another part of the line, and closures for them are no plainer.
     pub fn take_line(&mut self, verb: Verb, line: &[u8])
         ensures { self.new ≡ after_line verb line.now self.old }
     {

@@ -2,7 +2,7 @@
 #![tactic(auto)]
 
 ghost use Rattle.std.specs.Prelude.{◌≡◌, ◌<◌};
-ghost use Rattle.scenario_setting.specs.Setting.{number_set, deadline_set, record_set, setting_lines, setting_place, state_after, table_after};
+ghost use Rattle.scenario_setting.specs.Setting.{number_set, record_set, setting_lines, setting_place, state_after, table_after};
 
 use plain_encoding::{EACH, FRONT, Numbers};
 use scenario_lines::{Command, Verb};
@@ -35,22 +35,16 @@ fn set_number(numbers: &mut Numbers, s: u64, place: usize, n: u64)
     }
 }
 
-// Sets what goes with one of a deadline's two numbers: with a time that there is a deadline, and with none the time 0.
-fn set_deadline(state: &mut Numbers, s: u64, place: usize)
-    ensures { state.new ≡ deadline_set state.old s place }
+// Sets a number of a record, and what goes with one of a deadline's two: with a time that there is a deadline, and with none
+// the time 0.
+fn set_record(state: &mut Numbers, s: u64, place: usize, n: u64)
+    ensures { state.new ≡ record_set state.old s place n }
 {
     match place {
         TIME => set_number(state, s, TIMED, 1),
         TIMED => set_number(state, s, TIME, 0),
         _ => {}
     }
-}
-
-// Sets a number of a record.
-fn set_record(state: &mut Numbers, s: u64, place: usize, n: u64)
-    ensures { state.new ≡ record_set state.old s place n }
-{
-    set_deadline(state, s, place);
     set_number(state, s, place, n);
 }
 

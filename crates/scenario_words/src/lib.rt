@@ -5,8 +5,6 @@ ghost use Rattle.std.specs.Prelude.{◌≡◌};
 ghost use Rattle.scenario_words.specs.Pieces.{piece_of, piece_count, place_of};
 ghost use Rattle.scenario_words.specs.Numbers.{with_digit, number_of, number_to};
 
-use load_text::same_bytes;
-
 // Piece k of a text, counted from 0. Exactly one byte separates two pieces, so a piece may have no bytes; one that is
 // not there has none.
 pub fn piece(text: &[u8], parting: u8, k: usize) -> &[u8]
@@ -28,7 +26,7 @@ pub fn place(choices: &[u8], parting: u8, wanted: &[u8]) -> Option<usize>
 {
     choices
         .split(|b| *b == parting)
-        .position(|choice| same_bytes(wanted, choice))
+        .position(|choice| wanted == choice)
 }
 
 // A number with one more decimal digit, where it still fits 64 bits.
