@@ -79,7 +79,7 @@ fold_from_fold {g = g} step {n} {a = a} {r = r} ran each = fold_from_yields_List
 
 -- what `array::from_fn` made, from its clause `items`: the closure gives F i at each i
 module _ {A F : Type 0} (g : Mut F (ℕ × Unit {0}) A) (f : F) (V : ℕ → A) (step : (i : ℕ) (y : A) (q : F) → Called g f (i, tt) y q → (q ≡ f) × (y ≡ V i))
-  (l : List A) where
+    (l : List A) where
   made_from : (i n : ℕ) → IsFromFnResultFrom g f l i n → (d : A) (k : ℕ) → k < n → get_or l (i + k) d ≡ V (i + k)
   made_from i zero h d k m = absurd (omega (arith, m))
   made_from i (suc n) h d zero m =

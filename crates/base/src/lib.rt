@@ -6,6 +6,7 @@ ghost use Rattle.base.specs.Folds.{first};
 ghost use Rattle.base.specs.Sets.{has_bit, within, single, kept, overlap};
 
 // The number i is in the set.
+#[tactic(auto, unfolding(crate::specs::Sets::has_bit), using(crate::proofs::Words::high_bit))]
 pub fn has_bit(m: u64, i: usize) -> bool
     ensures { result ≡ has_bit m i }
 {
@@ -13,6 +14,7 @@ pub fn has_bit(m: u64, i: usize) -> bool
 }
 
 // The set has no number from n on.
+#[tactic(auto, unfolding(crate::specs::Sets::within), using(crate::proofs::Words::high_within))]
 pub fn is_within(n: usize, m: u64) -> bool
     ensures { result ≡ within n m }
 {
@@ -37,6 +39,7 @@ pub fn kept_if(b: bool, m: u64) -> u64
 }
 
 // The two sets have a number in common.
+#[tactic(auto, unfolding(crate::specs::Sets::overlap))]
 pub fn overlaps(a: u64, b: u64) -> bool
     ensures { result ≡ overlap a b }
 {
@@ -44,6 +47,7 @@ pub fn overlaps(a: u64, b: u64) -> bool
 }
 
 // The lowest number in the set, or 64 where there is none.
+// A number for none: so `first` of the definitions has it, and 64 is past every place, which is all that a caller asks.
 pub fn lowest_of(m: u64) -> usize
     ensures { result ≡ first (has_bit m) 64 }
 {
@@ -58,6 +62,7 @@ pub fn lowest_outside(m: u64) -> usize
 }
 
 // The lowest number below n in the set, or n where there is none: n joins the set, if it has a place in it.
+// A number for none: so `first` of the definitions has it, and one count of zeros gives it with no test of its own.
 pub fn lowest(m: u64, n: usize) -> usize
     ensures { result ≡ first (has_bit m) n }
 {

@@ -49,6 +49,7 @@ fn expired_action(p: Phase, s: usize) -> Action
 }
 
 // What the rule hands out for the service s.
+// A match: each rule of paper 01 has a case, as `handed_by` of the definitions, and a table of functions would only hide which.
 pub fn hand_out(k: Rule, v: Settings, r: Record, s: usize) -> Action
     ensures { result ≡ handed_by k v r s }
 {

@@ -46,6 +46,7 @@ pub fn start(t: Table, mut x: State, s: usize) -> Answered<()>
 }
 
 // Stop s.
+#[tactic(auto, using(rules::proofs::Formed::formed_few))]
 pub fn stop(t: Table, mut x: State, s: usize) -> Answered<()>
     ensures { changed_outcome result ≡ outcome t x (stopCall s) }
 {
@@ -83,6 +84,7 @@ pub fn stop_all(t: Table, mut x: State) -> Answered<()>
 }
 
 // The process of s has ended, good or bad.
+#[tactic(auto, using(rules::proofs::Formed::formed_few))]
 pub fn end(t: Table, mut x: State, s: usize, good: bool) -> Answered<()>
     ensures { changed_outcome result ≡ outcome t x (endCall s good) }
 {

@@ -39,6 +39,7 @@ fn nothing_to_end(f: Form, command: bool, live: bool) -> bool
 }
 
 // The clock is at or past the deadline.
+#[tactic(auto, unfolding(rules::specs::Rules::due))]
 fn is_due(now: u64, d: Option<u64>) -> bool
     ensures { result ≡ due now d }
 {

@@ -93,6 +93,7 @@ fn fallen(d: Record, c: Cause) -> Record
 
 impl Moment {
     // The record after the end of its process.
+    // A match: each phase has a case, as `ended_as` of the definitions.
     fn ended(self, good: bool) -> Record
         ensures { result ≡ ended_as self.found.phase self.settings self.now (brings self.settings good) self.found }
     {

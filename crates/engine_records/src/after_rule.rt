@@ -131,6 +131,7 @@ impl Moment {
     }
 
     // The record that a rule leaves.
+    // A match: each rule of paper 01 has a case, as `left_by` of the definitions, and a table of functions would only hide which.
     fn left(self, k: Rule, user: bool) -> Record
         ensures { result ≡ left_by k user self.settings self.now self.found }
     {

@@ -92,6 +92,7 @@ pub struct Settings {
     pub soft: u64,
 }
 
+// A count beside an array: memory is fixed, since the core allocates nothing (docs/HOST.md, "Reentrancy").
 #[derive(Clone, Copy)]
 pub struct Table {
     pub count: usize,

@@ -37,33 +37,6 @@ returns-in_default c = search turn_quiet
 
 -- ---- from the place where a rule and a service are chosen: the choice, the second pass and the loop's turn
 
-pub offset_bounds-t-s : goal.offset_bounds-t-s
-offset_bounds-t-s c =
-    let l = turn_inside c.loop-k.invariant c.requires.1 c.loop-j.invariant c.loop-j-test.false c.choose.ensures c.in-Some.is in
-    search rules
-
-pub bounds-t-s : goal.bounds-t-s
-bounds-t-s c =
-    turn_inside c.loop-k.invariant c.requires.1 c.loop-j.invariant c.loop-j-test.false c.choose.ensures c.in-Some.is
-
-pub offset_bounds-y-s : goal.offset_bounds-y-s
-offset_bounds-y-s c =
-    let l = turn_inside c.loop-k.invariant c.requires.1 c.loop-j.invariant c.loop-j-test.false c.choose.ensures c.in-Some.is in
-    search rules
-
-pub bounds-y-s : goal.bounds-y-s
-bounds-y-s c =
-    turn_inside c.loop-k.invariant c.requires.1 c.loop-j.invariant c.loop-j-test.false c.choose.ensures c.in-Some.is
-
-pub offset_bounds-y-s-in-loop-k : goal.offset_bounds-y-s-in-loop-k
-offset_bounds-y-s-in-loop-k c =
-    let l = turn_inside c.loop-k.invariant c.requires.1 c.loop-j.invariant c.loop-j-test.false c.choose.ensures c.in-Some.is in
-    search rules
-
-pub bounds-y-s-in-loop-k : goal.bounds-y-s-in-loop-k
-bounds-y-s-in-loop-k c =
-    turn_inside c.loop-k.invariant c.requires.1 c.loop-j.invariant c.loop-j-test.false c.choose.ensures c.in-Some.is
-
 pub loop-k-preserved : goal.loop-k-preserved
 unfolding record_at with_record
 loop-k-preserved c =

@@ -42,14 +42,3 @@ pub returns : goal.returns
 unfolding outcome check
 returns c = simp (c.refused-2.ensures, c.if-is_formed.false, ← c.is_formed.ensures)
 
-pub offset_bounds-t-s : goal.offset_bounds-t-s
-offset_bounds-t-s c = let h = formed_few _ _ _ c.is_formed.ensures c.if-is_formed.true in search rules
-
-pub bounds-t-s : goal.bounds-t-s
-bounds-t-s c = let h = formed_few _ _ _ c.is_formed.ensures c.if-is_formed.true in search rules
-
-pub offset_bounds-x-s : goal.offset_bounds-x-s
-offset_bounds-x-s c = let h = formed_few _ _ _ c.is_formed.ensures c.if-is_formed.true in search rules
-
-pub bounds-x-s : goal.bounds-x-s
-bounds-x-s c = let h = formed_few _ _ _ c.is_formed.ensures c.if-is_formed.true in search rules
