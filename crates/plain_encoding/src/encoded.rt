@@ -2,7 +2,7 @@
 ghost use Rattle.std.specs.Prelude.{◌≡◌, ◌+◌, ◌≤◌, ℕ, List, get_or};
 ghost use Rattle.service.specs.Numbers.{settings_from, settings_numbers};
 ghost use Rattle.plain_encoding.specs.Encoding.{EncodingLaws, all_read, all_written, record_laws, settings_laws};
-ghost use Rattle.plain_encoding.specs.Numbers.{all_numbers, per_place, placed, record_from, record_numbers};
+ghost use Rattle.plain_encoding.specs.Numbers.{all_numbers, per_place, record_from, record_numbers};
 
 use crate::{EACH, FRONT, Numbers};
 use service::{Cause, Kind, MAX_SERVICES, Phase, Record, Settings, Signal};
