@@ -20,7 +20,7 @@ use load_description::{Description, MAX_DEPENDENCIES, Word};
 use load_lent::{Lent, Refused};
 use load_text::{Fault, Wrong};
 use load_word::Link;
-use service::{MAX_SERVICES, Settings, all_links};
+use service::{MAX_SERVICES, Settings};
 
 // The services that a service depends on, as sets: by depends-on, by depends-ms and by waits-for.
 #[derive(Clone, Copy)]
@@ -156,7 +156,7 @@ pub fn lowest_cyclic(services: [Settings; MAX_SERVICES], n: usize) -> Option<usi
     if MAX_SERVICES < n {
         return None;
     }
-    let rows = services.map(all_links);
+    let rows = services.map(Settings::all_links);
     if has_cycle(n, &rows) {
         first_own(n, &rows)
     } else {

@@ -7,7 +7,7 @@ ghost use Rattle.std.specs.Prelude.{◌≡◌};
 ghost use Rattle.service.specs.Settings.{default_settings, form_of, is_passing, starts_first, lives_up, no_services, strong_of, links_of};
 ghost use Rattle.service.specs.Records.{active, fresh_record, fresh_state};
 
-pub use numbers::{LAST_SIGNAL, kind_at, kind_number, signal_at};
+pub use numbers::LAST_SIGNAL;
 
 // The most services that a set may have.
 pub const MAX_SERVICES: usize = 32;
@@ -316,10 +316,4 @@ impl State {
             records: [r; MAX_SERVICES],
         }
     }
-}
-
-pub fn all_links(v: Settings) -> u64
-    ensures { result ≡ links_of v }
-{
-    v.all_links()
 }

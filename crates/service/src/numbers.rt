@@ -169,22 +169,3 @@ impl Action {
         }
     }
 }
-
-// The same by name, for the crates that are not yet off them.
-pub fn kind_number(k: Kind) -> u64
-    ensures { result ≡ kind_number k }
-{
-    u64::from(k)
-}
-
-pub fn kind_at(n: u64) -> Kind
-    ensures { result ≡ kind_at n }
-{
-    Kind::from(n)
-}
-
-pub fn signal_at(n: u64) -> Signal
-    ensures { result ≡ signal_at n }
-{
-    Signal::from(n)
-}
