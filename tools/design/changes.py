@@ -259,7 +259,7 @@ FAMILIES = {
     "b": ("`Verdict`, `Scan`, `Line`, `Opening` with `Good`, `Tokens z`, `Nothing`, `Named s`, `Bad f`", "`Result` of nothing, of `Sizes`, of `Effect`, of `Option Places`, with `Ok` and `Err f`"),
     "c": ("a fault's number, `fault 6 i` to `fault 15 i`, `f.number`", "the case of `Wrong`, `fault BadByte i` to `fault NoSuchService i`, `wrong_number f.wrong`: `wrong_number` of the case is the number"),
     "d": ("`Worth`, `Change`, `Reading` with `Value n`, `To v`, `On k`, and `Bad`, `Refused`, `Off`", "`Option ℕ`, `Option Settings`, `Option Decimal` with `Some` and `None`"),
-    "e": ("`Accepted`, a refusal `bare n s` as an `Answer`", "`Ok tt`, `Err (bare n s)`"),
+    "e": ("`Accepted`, a refusal as an `Answer`: `bare n s`, `Refused n s l c`", "`Ok tt`, `Err (bare n s)`, `refused_at n s l c`"),
     "f": ("`Fits`, `Which`", "`PerRule ℕ`, `PerRule Bool`"),
     "g": ("`NoRule`, `Fit k s`", "`None`, `Some (k, s)`"),
     "h": ("`EventAnswer`, `ActionAnswer`, `RunAnswer`, `QueryAnswer`; `Changed`, `Stepped`, `Ran`", "`Result` of nothing, `Action`, `ℕ`, `Option ℕ`, and `Refusal`; `Answered` of them"),
@@ -286,7 +286,7 @@ WORDS = [
     ("d", "", r"\bWorth\.Value\b", "Some"), ("d", "", r"\bWorth\.Bad\b", "None"), ("d", "", r"(?<![.\w])Worth\b(?!\.)", "(Option ℕ)"),
     ("d", "", r"\bChange\.To\b", "Some"), ("d", "", r"\bChange\.Refused\b", "None"), ("d", "", r"(?<![.\w])Change\b(?!\.)", "(Option Settings)"),
     ("d", "", r"\bReading\.On\b", "Some"), ("d", "", r"\bReading\.Off\b", "None"), ("d", "", r"(?<![.\w])Reading\b(?!\.)", "(Option Decimal)"),
-    ("e", "", r"\bAnswer\.Accepted\b", "(Ok tt)"),
+    ("e", "", r"\bAnswer\.Accepted\b", "(Ok tt)"), ("e", "loader", r"= Answer\.Refused (\d+ \d+ \d+ \d+)", r"= refused_at \1"),
     ("e", "load_lent|loader", r"\((bare (?:\d+|\w) (?:\d+|\w))\)", r"(Err (\1))"), ("e", "load_lent|loader", r"(?<== )(bare \d+ \d+)", r"Err (\1)"),
     ("f", "engine_choice", r"(?<![.\w])Fits\b(?!\.)", "(PerRule ℕ)"), ("f", "engine_choice", r"(?<![.\w])Which\b(?!\.)", "(PerRule Bool)"),
     ("g", "", r"\bChoice\.Quiet\b", "None"), ("g", "", r"\(Choice\.Fit ([\w.]+) (\w+)\)", r"(Some (\1, \2))"),
@@ -297,7 +297,8 @@ WORDS = [
     ("h", "", r"(?<![.\w])QueryAnswer\b(?!\.)", "(Result (Option ℕ) Refusal)"), ("h", "engine|plain|rules", r"(?<![.\w])Ran\b(?!\.)", "(Answered ℕ)"),
     ("h", "engine|plain|rules", r"(?<![.\w])Changed\b(?!\.)", "(Answered (Unit {0}))"), ("h", "rules", r"(?<![.\w])Stepped\b(?!\.)", "(Answered Action)"),
     ("i", "scenario_words|scenario_lines", r"(?<![.\w])Read\b(?!\.)", "(Option ℕ)"),
-    ("v", "scenario_.*", r"\b(set_(?:record|table)) \+ (\d+)", lambda m: f"{VERB[m.group(1)]} {m.group(2)}"),
+    ("v", "scenario_lines", r"\bis = plain (nothing|begin|add_line|add_piece)\b", lambda m: f"is = asks {VERB[m.group(1)]} 0 0"),
+    ("v", "scenario_lines", r"\(load \+ 1\)", "Verb.LoadNone"), ("v", "scenario_.*", r"\b(set_(?:record|table)) \+ (\d+)", lambda m: f"{VERB[m.group(1)]} {m.group(2)}"),
     ("v", "scenario_.*", r"\b(?:set_record|set_table)\b(?! [:=≡∷]| verb)", lambda m: f"({VERB[m.group()]} 0)"),
     ("v", "scenario_.*", r"(?<![.\w])(?:set_clock|set_count|load_at|load|begin|add_line|add_piece|nothing)(?![\w.])(?= \(| [a-z0-9]|;)(?! l\b)", lambda m: VERB[m.group()]),
     ("v", "scenario_lines", r"\bis = plain (\d+)", lambda m: f"is = asks Verb.{VERBS[int(m.group(1))]} 0 0"),
@@ -326,16 +327,28 @@ def resolved(word, text):
     return re.sub(r"^(?:(?:abbrev|unfoldable|pub) )+", "", text)
 
 
-def same_but_words(old, new, statement=False):
-    """The families by which the new text reads otherwise and not further; None where there is more."""
-    was, now = (resolved(w, w.statement if statement else w.text) for w in (old, new))
-    used = set()
+def replaced(old, was):
+    """The old text with its words given way to others, and the families that did."""
+    used, strings = set(), []
+
+    def aside(m):
+        strings.append(m.group())
+        return f'"{len(strings) - 1}"'
+
+    was = re.sub(r'"(?:\\.|[^"\\])*"', aside, was)
     for family, crates, pattern, to in WORDS:
         if not crates or re.fullmatch(crates, old.crate):
             then = re.sub(pattern, to, was)
             if then != was:
                 used.add(family)
             was = then
+    return re.sub(r'"(\d+)"', lambda m: strings[int(m.group(1))], was), used
+
+
+def same_but_words(old, new, statement=False):
+    """The families by which the new text reads otherwise and not further; None where there is more."""
+    was, now = (resolved(w, w.statement if statement else w.text) for w in (old, new))
+    was, used = replaced(old, was)
     return used if plain(was) == plain(now) else None
 
 
@@ -592,15 +605,18 @@ def cell(text, most=1200):
     return "`" + text.replace("|", "\\|").replace("`", "'") + "`" if text else ""
 
 
-def differing(old, new):
-    """Two long texts with what stands in both left out."""
+def differing(old, new, same_old, same_new):
+    """Two long texts with the parts left out that are the same in both, or in what their words gave way to."""
     if len(old) + len(new) < 1200:
         return old, new
-    a, b = re.split(r"(?<= ∷) ", old), re.split(r"(?<= ∷) ", new)
+    a, b, x, y = (re.split(r"(?<= ∷) ", t) for t in (old, new, same_old, same_new))
     if min(len(a), len(b)) < 4:
         return old, new
+    if len(a) != len(x) or len(b) != len(y):
+        x, y = a, b
+    x, y = ([plain(e) for e in l] for l in (x, y))
     said = ([], [])
-    for kind, i, j, k, l in difflib.SequenceMatcher(None, a, b, autojunk=False).get_opcodes():
+    for kind, i, j, k, l in difflib.SequenceMatcher(None, x, y, autojunk=False).get_opcodes():
         if kind == "equal" and i:
             for s in said:
                 s.append("...")
@@ -704,7 +720,8 @@ class Page(Compared):
                 by[tuple(sorted(used))].append(k)
             else:
                 old, new = (w.statement if whole else re.sub(r"^(?:(?:abbrev|unfoldable|pub) )+", "", w.text) for w in (a, b))
-                (lemmas if whole else full).append((k[0], *(cell(t, 3000) for t in differing(old, new))))
+                like = replaced(a, resolved(a, old))[0], resolved(b, new)
+                (lemmas if whole else full).append((k[0], *(cell(t, 3000) for t in differing(old, new, *like))))
         out = ["### Definitions and theorems of specs/ in which words gave way to words", "",
                f"Of {len(was)} definitions and theorems {same} are the same, {sum(map(len, by.values()))} are the same but for these words:", ""]
         used = {f for u in by for f in u}
