@@ -23,11 +23,12 @@ most_positions = 2 * (max_services + 3)
 abbrev pub are_numbers : List ℕ → ℕ → Bool
 are_numbers l n = every (λ k. is_some (number_of (word_of l (k + 2)))) n
 
--- "load ROOM P P ..", with the room and the number of positions
+-- the form of a load
 abbrev pub load_form : List ℕ
 unfolding bytes
 load_form = bytes "load #65536"
 
+-- "load ROOM P P ..", with the room and the number of positions
 abbrev pub read_load : List ℕ → Option Command
 read_load l =
     let n = word_count l in
