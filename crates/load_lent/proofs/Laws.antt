@@ -1,12 +1,11 @@
 -- The laws of the lent positions, names and sizes, as loops go through them.
 use Prim.Native.Nat.{◌*◌, ◌+◌, ◌-◌, ◌<◌, ◌≤◌, ℕ}
-use borrow.Author.Tests.{le-leb, le-ltb, lt-ltb}
+use borrow.Author.Tests.{le-ltb, lt-ltb}
 use lib.Dec.{eqb, leb, ltb}
 use lib.ListN.{get_or-eq_default, drop, drop_of_length-le, get_or, length, take}
 use mathlib.Core.Bool.{Bool, ◌&&◌, false, true}
 use mathlib.Core.List.{List, []}
 use mathlib.Core.Path.{◌∙◌, ◌≡◌, ap, refl, sym}
-use native.Mathlib.Nat.{sub-zero}
 use native.Mathlib.Omega.{arith}
 use Rattle.std.specs.Prelude.{Ok, Err}
 use Rattle.base.proofs.Counting.{drop_more, one_left}
@@ -15,9 +14,10 @@ use Rattle.base.specs.Folds.{pick}
 use Rattle.load_text.specs.Strings.{part_of}
 use Rattle.load_word.specs.Words.{is_name}
 use Rattle.load_lent.specs.Checks.{find, longest_text, longest_texts, names_from, sizes_from}
-use Rattle.load_lent.specs.Parts.{name_at, name_start, rises_to, text_at, service_count, within}
+use Rattle.load_lent.specs.Parts.{name_at, name_start, rises_to, text_at, service_count}
 use Rattle.load_lent.specs.Refusals.{bare}
 use Rattle.load_lent.specs.declared.Refused.{Refused}
+use Rattle.load_lent.proofs.Search.{found_some}
 
 -- ---- the positions
 
@@ -56,18 +56,11 @@ unfolding text_at
 text_past lent ends j h =
     part_none lent (get_or ends (2 * j) 0) ∙ ap (part_of lent (get_or ends (2 * j) 0)) (sym (get_or-eq_default ends 0 (omega arith)))
 
--- of services lent there are as many as are asked for
-pub within_few : (n : ℕ) (ends : List ℕ) → n ≤ service_count ends → within n ends ≡ n
-within_few n ends h = rw (le-leb n (service_count ends) h)
-
 -- ---- names: those before j are good; w is the name of service j as the code has it
 
 pub record NamesLeft (name : ℕ → List ℕ) (n j : ℕ) : Type 0 where
   pub within : j ≤ n
   pub rest : names_from name 0 n ≡ names_from name j (n - j)
-
-pub names_none : (name : ℕ → List ℕ) (n : ℕ) → NamesLeft name n 0
-names_none name n = record { within = omega arith; rest = rw (sub-zero n) }
 
 module _ {name : ℕ → List ℕ} {n j : ℕ} (k : NamesLeft name n j) where
   pub names_all : n ≤ j → Ok tt ≡ names_from name 0 n
@@ -97,9 +90,6 @@ pub record SizesLeft (text : ℕ → List ℕ) (n t j : ℕ) : Type 0 where
   pub few : t ≤ longest_texts
   pub rest : sizes_from text 0 0 n ≡ sizes_from text t j (n - j)
 
-pub sizes_none : (text : ℕ → List ℕ) (n : ℕ) → SizesLeft text n 0 0
-sizes_none text n = record { within = omega arith; few = omega arith; rest = rw (sub-zero n) }
-
 module _ {text : ℕ → List ℕ} {n t j : ℕ} (k : SizesLeft text n t j) where
   pub sizes_all : n ≤ j → Ok tt ≡ sizes_from text 0 0 n
   unfolding sizes_from
@@ -124,3 +114,11 @@ module _ {text : ℕ → List ℕ} {n t j : ℕ} (k : SizesLeft text n t j) wher
       few = m;
       rest = k.rest ∙ rw (one_left n j l, ← is, le-ltb longest_text (length w) h, le-ltb longest_texts (t + length w) m);
     }
+
+-- ---- what the loops go by
+
+pub ruleset rising = (rises_end, rises_next)
+
+pub ruleset naming = (names_all, names_bad, names_good, names_twice, found_some)
+
+pub ruleset sizing = (sizes_all, sizes_fit, sizes_long, sizes_many)

@@ -85,6 +85,7 @@ impl<'a> Lent<'a, '_> {
     }
 
     // The positions are even in number, do not fall, and end with the lent bytes.
+    #[tactic(auto, using(crate::proofs::Laws::rising), unfolding(crate::specs::Parts::positioned))]
     pub fn is_positioned(self) -> bool
         ensures { result ≡ positioned self.entry.bytes.now self.entry.ends.now }
     {
@@ -100,6 +101,7 @@ impl<'a> Lent<'a, '_> {
     }
 
     // The name of service j; past the last service none.
+    #[tactic(auto, using(crate::proofs::Laws::name_past), unfolding(crate::specs::Parts::name_at, crate::specs::Parts::name_start))]
     pub fn name(self, j: usize) -> &'a [u8]
         ensures { result.now ≡ names_of self.entry j }
     {
@@ -111,6 +113,7 @@ impl<'a> Lent<'a, '_> {
     }
 
     // The text of service j; past the last service none.
+    #[tactic(auto, using(crate::proofs::Laws::text_past), unfolding(crate::specs::Parts::text_at))]
     pub fn text(self, j: usize) -> &'a [u8]
         ensures { result.now ≡ texts_of self.entry j }
     {
@@ -135,6 +138,7 @@ impl<'a> Lent<'a, '_> {
     }
 
     // Numbers 3 and 4, for each name in turn.
+    #[tactic(auto, using(crate::proofs::Laws::naming))]
     pub fn check_names(self) -> Result<(), Refused>
         ensures { result ≡ names_from (names_of self.entry) 0 (services_of self.entry) }
     {
@@ -151,6 +155,7 @@ impl<'a> Lent<'a, '_> {
     }
 
     // Number 5, over all texts.
+    #[tactic(auto, using(crate::proofs::Laws::sizing))]
     pub fn check_sizes(self) -> Result<(), Refused>
         ensures { result ≡ sizes_from (texts_of self.entry) 0 0 (services_of self.entry) }
     {

@@ -19,21 +19,14 @@ use Rattle.load_description.specs.Settings.{blank, dependency_at, description_at
 use Rattle.load_description.specs.declared.Dependency.{Dependency}
 use Rattle.load_description.specs.declared.Description.{Description}
 use Rattle.load_lent.specs.Checks.{find, found}
-use Rattle.load_lent.specs.Parts.{name_at, service_count, within}
 use Rattle.load_lent.specs.Refusals.{bare, in_text, refused_in}
 use Rattle.load_lent.specs.declared.Refused.{Refused}
-use Rattle.load_lent.proofs.Laws.{within_few}
+use Rattle.load_lent.proofs.Results.{mapped_err}
 use Rattle.load_lent.proofs.Search.{found_at, found_none}
 use Rattle.load_links.specs.Links.{links_from, links_in, no_links, services_from, services_in, settings_of, with_link}
 use Rattle.load_links.specs.declared.Links.{Links}
 
--- the search for a word among all names; v is the word as the code has it
-pub word_found : (lent ends v w : List ℕ) {r : Option ℕ}
-    → r ≡ found (within (service_count ends) ends) (find (name_at lent ends) (within (service_count ends) ends) v) → v ≡ w
-    → r ≡ found (service_count ends) (find (name_at lent ends) (service_count ends) w)
-word_found lent ends v w e f = e ∙ rw (within_few (service_count ends) ends (omega arith), f)
-
--- ---- the dependencies of a description: those before k are links, as l; i is the service that the code found for dependency k
+-- ---- the dependencies of a description: those before k are links, as l
 
 pub record Linking (name : ℕ → List ℕ) (n : ℕ) (text : List ℕ) (d : Description) (l : Links) (k : ℕ) : Type 0 where
   pub few : d.count ≤ max_dependencies
@@ -89,9 +82,6 @@ pub record Made (name text : ℕ → List ℕ) (ds : List Description) (n : ℕ)
   pub rest : services_from name text ds n none 0 n ≡ services_from name text ds n vs j (n - j)
 
 module _ (name text : ℕ → List ℕ) (ds : List Description) (n : ℕ) where
-  pub made_none : (none : List Settings) → n ≤ max_services → length ds ≡ max_services → Made name text ds n none none 0
-  made_none none f l = record { within = omega arith; few = omega arith; rest = rw (sub-zero n) }
-
   pub made_all : {none vs : List Settings} {j : ℕ} → Made name text ds n none vs j → n ≤ j → Ok vs ≡ services_from name text ds n none 0 n
   unfolding services_from
   made_all {j = j} k h =
@@ -139,3 +129,11 @@ module _ (name text : ℕ → List ℕ) (ds : List Description) (n : ℕ) where
   pub services_many : max_services < n → {o : Refused} → o ≡ bare 1 0 → Err o ≡ services_in name text ds n
   unfolding services_in
   services_many h e = ap Err e ∙ rw (lt-leb n max_services h)
+
+-- ---- what the loops go by
+
+pub ruleset linking = (linking_many, linking_none, linking_all)
+
+pub ruleset making = (made_absent, made_all, mapped_err)
+
+pub ruleset served = (services_few, services_many)

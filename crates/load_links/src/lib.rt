@@ -80,6 +80,7 @@ fn find_word(lent: Lent, text: &[u8], at: usize) -> Option<usize>
 }
 
 // The dependencies of one description. One that says that it has more than there are places is not looked through.
+#[tactic(auto, using(crate::proofs::Laws::linking))]
 fn resolve(set: Set, text: &[u8], d: Description) -> Result<Links, Fault>
     ensures { result ≡ links_in (names_of set.entry.lent) (services_of set.entry.lent) text.now d }
 {
@@ -115,6 +116,7 @@ fn settings_of(d: &Description, l: Links) -> Settings
 }
 
 // The settings of each service, put into the places given.
+#[tactic(auto, using(crate::proofs::Laws::making))]
 fn make(
     set: Set,
     ds: &[Description; MAX_SERVICES],
@@ -131,6 +133,7 @@ fn make(
 }
 
 // The settings of a set, or the first dependency on a service not in it. More services than there are places are refused (1).
+#[tactic(auto, using(crate::proofs::Laws::served))]
 pub fn make_services(
     lent: Lent,
     ds: &[Description; MAX_SERVICES],

@@ -230,3 +230,13 @@ service_put text d to e b f g =
     g
     ∙ rw (f, ap (λ (c : Commands). c.stop.at) e)
     (sym (sets_append b to.start.at (command_bytes text d.kept.command) (command_bytes text d.kept.stop)))
+
+-- ---- what each function goes by
+
+pub ruleset measuring = (measured_none, measured_bad, measured_empty, measured_some)
+
+pub ruleset placing = (first_fits, second_fits, room_most, service_placed)
+
+pub ruleset putting = (command_absent, command_none, command_past, command_put)
+
+pub ruleset following = (start_counted, stop_counted, service_put)

@@ -2,26 +2,25 @@
 use Prim.Native.Nat.{◌+◌, ◌-◌, ◌<◌, ◌≤◌, suc, zero, zero-le, ℕ}
 use borrow.Author.Tests.{ltb-false}
 use lib.Dec.{ltb}
-use lib.ListN.{length, replicate, set}
+use lib.ListN.{length, set}
 use mathlib.Core.Bool.{Bool, ◌||◌, false, true}
 use mathlib.Core.List.{List}
 use mathlib.Core.Path.{◌∙◌, ◌≡◌, ap, refl, sym}
-use native.Mathlib.Nat.{eq-or-lt_of_le, sub-zero}
+use native.Mathlib.Nat.{eq-or-lt_of_le}
 use native.Mathlib.Omega.{arith}
 use Rattle.std.specs.Prelude.{Err, Ok, Result}
 use Rattle.base.specs.Folds.{pick}
 use Rattle.base.proofs.Counting.{one_left}
 use Rattle.base.proofs.Tests.{either}
-use Rattle.service.specs.Limits.{max_services}
 use Rattle.load_text.specs.declared.Fault.{Fault}
-use Rattle.load_description.specs.Settings.{blank}
 use Rattle.load_description.specs.Texts.{text_read}
 use Rattle.load_description.specs.declared.Description.{Description}
 use Rattle.loader.specs.Short.{Short}
-use Rattle.loader.specs.Texts.{descriptions_from, no_descriptions}
+use Rattle.loader.specs.Texts.{descriptions_from}
 use Rattle.load_lent.specs.Checks.{longest_text, longest_texts, sizes_from}
 use Rattle.load_lent.specs.Refusals.{bare, in_text, refused_in}
 use Rattle.load_lent.specs.declared.Refused.{Refused}
+use Rattle.load_lent.proofs.Results.{mapped_err, mapped_ok}
 
 -- ---- 5: no text is long
 
@@ -48,13 +47,6 @@ pub record Reading (text : ℕ → List ℕ) (n : ℕ) (none ds : List Descripti
   pub within : j ≤ n
   pub rest : descriptions_from text none 0 n ≡ descriptions_from text ds j (n - j)
 
-pub reading_none : (text : ℕ → List ℕ) (n : ℕ) (none : List Description) → Reading text n none none 0
-reading_none text n none = record { within = omega arith; rest = rw (sub-zero n) }
-
-pub texts_blank : (text : ℕ → List ℕ) (n : ℕ) {d : Description} {r : Result (List Description) Refused} → d ≡ blank
-    → r ≡ descriptions_from text (replicate max_services d) 0 n → r ≡ descriptions_from text no_descriptions 0 n
-texts_blank text n e q = q ∙ ap (λ (a : Description). descriptions_from text (replicate max_services a) 0 n) e
-
 module _ {text : ℕ → List ℕ} {n : ℕ} {none ds : List Description} {j : ℕ} (k : Reading text n none ds j) where
   pub reading_all : n ≤ j → Ok ds ≡ descriptions_from text none 0 n
   unfolding descriptions_from
@@ -76,7 +68,6 @@ module _ {text : ℕ → List ℕ} {n : ℕ} {none ds : List Description} {j : �
     pub reading_bad : {f : Fault} → r ≡ Err f → {o : Refused} → o ≡ refused_in t j f → Err o ≡ descriptions_from text none 0 n
     reading_bad g q = ap Err q ∙ sym (k.rest ∙ (step ∙ ap (onward t) g))
 
--- ---- the tokens
+-- ---- what the loop over the texts goes by
 
-pub text_short : {text : ℕ → List ℕ} {n j : ℕ} {t : List ℕ} → Short text n → j < n → t ≡ text j → length t ≤ longest_text
-text_short {j = j} h l e = rw e (h.each j l)
+pub ruleset reading = (reading_more, reading_bad, reading_all, mapped_ok, mapped_err)

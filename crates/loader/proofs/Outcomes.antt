@@ -23,14 +23,12 @@ use Rattle.load_lent.proofs.Search.{found_at, found_none}
 use Rattle.load_links.specs.Links.{lowest_cyclic, services_from, services_in}
 use Rattle.loader.specs.Tokens.{bytes_from, commands_from, no_commands}
 use Rattle.loader.specs.declared.Placed.{Placed}
+use Rattle.loader.proofs.Laws.{sizes_short}
 
 -- ---- the last: 25
 
 module _ (text : ℕ → List ℕ) (buffer : List ℕ) (n : ℕ) (ds : List Description) (vs : List Settings) where
   module _ {p : Placed} (e : p ≡ record { commands = commands_from text ds 0 no_commands 0 n; room = length (bytes_from text ds 0 n) }) where
-    pub placed_places : p.commands ≡ commands_from text ds 0 no_commands 0 n
-    placed_places = ap (λ (y : Placed). y.commands) e
-
     pub stored_fits : p.room ≤ length buffer → {b : List ℕ} → b ≡ sets buffer 0 (bytes_from text ds 0 n) → {k : ℕ} → k ≡ n
         → record { loaded = record { answer = Ok tt; table = record { count = k; services = vs }; commands = p.commands }; buffer = b }
         ≡ stored text buffer n ds vs
@@ -140,6 +138,11 @@ module _ (lent ends buffer : List ℕ) where
 
               pub kept : o ≡ None → Comes (stored text buffer n ds vs)
               kept e = cycled ∙ acyclic_on text buffer n ds vs few oe e
+
+-- the way of a load through its checks
+pub ruleset checking = (kept, many, oversized, unlinked, unnamed, unplaced, unread, sizes_short)
+
+pub ruleset storing = (stored_fits, stored_small)
 
 -- ---- what holds of every refusal, and of what is stored where no number is due, holds of every load
 

@@ -37,12 +37,6 @@ module _ (text : ℕ → List ℕ) (ds : List Description) (n : ℕ) where
     pub bytes : sets b 0 (bytes_from text ds 0 n) ≡ sets b' place (bytes_from text ds j (n - j))
 
 module _ (text : ℕ → List ℕ) (ds : List Description) (n : ℕ) where
-  pub placing_none : (cs : List Commands) → Placing text ds n cs cs 0 0
-  placing_none cs = record { within = omega arith; bound = omega arith; places = rw (sub-zero n); rest = rw (sub-zero n) (omega arith) }
-
-  pub place_fits : {cs cs' : List Commands} {o j : ℕ} → Placing text ds n cs cs' o j → j < n → n ≤ max_services → o < 4294967296
-  place_fits k h m = omega (arith, k.bound)
-
   pub placing_end : {cs cs' : List Commands} {o j : ℕ} → Placing text ds n cs cs' o j → n ≤ j
       → ◌≡◌ {A = Placed} (record { commands = cs'; room = o })
       (record { commands = commands_from text ds 0 cs 0 n; room = length (bytes_from text ds 0 n) })

@@ -52,6 +52,7 @@ impl Loaded {
 }
 
 // The texts of the services read in turn, put into the places given.
+#[tactic(auto, using(crate::proofs::Laws::reading))]
 fn read_into(
     set: Set,
     mut ds: [Description; MAX_SERVICES],
@@ -72,6 +73,7 @@ fn read_texts(set: Set) -> Result<[Description; MAX_SERVICES], Refused>
 }
 
 // Finds the place of what is kept of each service, one after the other from the start of the buffer on, put into the places given.
+#[tactic(auto, using(crate::proofs::Services::placing_end))]
 fn place_all(
     set: Set,
     ds: &[Description; MAX_SERVICES],
@@ -90,6 +92,7 @@ fn place_all(
 }
 
 // Writes what is kept of each service to its place.
+#[tactic(auto, using(crate::proofs::Services::writing_none, crate::proofs::Services::writing_more))]
 fn write_all(
     set: Set,
     ds: &[Description; MAX_SERVICES],
@@ -105,6 +108,7 @@ fn write_all(
 }
 
 // The last of the load: 25, or the tokens written and the table given.
+#[tactic(auto, using(crate::proofs::Outcomes::storing))]
 fn store(
     set: Set,
     ds: &[Description; MAX_SERVICES],
@@ -131,6 +135,7 @@ fn store(
 }
 
 // The checks in paper 01's order.
+#[tactic(auto, using(crate::proofs::Outcomes::checking))]
 fn try_load(lent: Lent, tokens: &mut [u8]) -> Result<Loaded, Refused>
     ensures { ◌≡◌ {A = Outcome} (outcome tokens.new result) (load lent.entry.bytes.now lent.entry.ends.now tokens.old) }
 {

@@ -50,6 +50,7 @@ pub struct Place {
 }
 
 // The command whose value begins at an offset of a text.
+#[tactic(auto, using(crate::proofs::Kept::measuring))]
 fn measure(text: &[u8], at: Option<usize>) -> Measured
     ensures { result ≡ record { count = command_count text.now at; room = length (command_bytes text.now at) } }
 {
@@ -71,6 +72,7 @@ fn measure(text: &[u8], at: Option<usize>) -> Measured
 }
 
 // Where what is kept of a service is, from the place o on.
+#[tactic(auto, using(crate::proofs::Kept::placing))]
 pub(crate) fn place_service(text: &[u8], d: &Description, o: usize) -> Place
     requires { (length text.now ≤ longest_text) × (o < 4294967296) }
     ensures { (result ≡ record { commands = places_of o text.now d.now; end = o + room_of text.now d.now }) × (room_of text.now d.now ≤ most_room) }
@@ -94,6 +96,7 @@ pub(crate) fn place_service(text: &[u8], d: &Description, o: usize) -> Place
 }
 
 // Writes the tokens of a command to their place. What does not fit is dropped.
+#[tactic(auto, using(crate::proofs::Kept::putting))]
 fn write_command(text: &[u8], at: Option<usize>, to: Tokens, buffer: &mut [u8])
     requires { to.count ≡ command_count text.now at }
     ensures { buffer.new ≡ sets buffer.old to.at (command_bytes text.now at) }
@@ -108,6 +111,7 @@ fn write_command(text: &[u8], at: Option<usize>, to: Tokens, buffer: &mut [u8])
 }
 
 // Writes what is kept of a service to its places. What does not fit is dropped.
+#[tactic(auto, using(crate::proofs::Kept::following))]
 pub(crate) fn write_service(text: &[u8], d: &Description, to: Commands, buffer: &mut [u8])
     requires { to ≡ places_of to.start.at text.now d.now }
     ensures { buffer.new ≡ sets buffer.old to.start.at (kept_of text.now d.now) }

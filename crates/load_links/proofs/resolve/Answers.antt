@@ -3,14 +3,8 @@ use native.Mathlib.Omega.{arith}
 use Rattle.std.proofs.Common.{rules, ◌≡◌, length, length-take-le}
 use Rattle.std.proofs.lemmas.List.{get_or-take}
 use Rattle.load_description.specs.Settings.{max_dependencies}
-use Rattle.load_links.proofs.Laws.{linking_many, linking_none, linking_more, linking_absent, linking_all}
+use Rattle.load_links.proofs.Laws.{linking_more, linking_absent}
 use Rattle.load_links.proofs.resolve.Goals as goal
-
-pub loop-dependency-init : goal.loop-dependency-init
-loop-dependency-init c = linking_none _ _ _ _ c.if-d-gt-MAX_DEPENDENCIES.false
-
-pub returns-then-d-gt-MAX_DEPENDENCIES : goal.returns-then-d-gt-MAX_DEPENDENCIES
-returns-then-d-gt-MAX_DEPENDENCIES c = linking_many _ _ _ _ c.if-d-gt-MAX_DEPENDENCIES.true
 
 pub loop-dependency-preserved : goal.loop-dependency-preserved
 loop-dependency-preserved c =
@@ -18,12 +12,6 @@ loop-dependency-preserved c =
     let n = length-take-le c.args.d.count c.args.d.dependencies (omega arith) in
     linking_more c.loop-dependency.invariant (omega arith) (get_or-take _ c.args.d.dependencies _ _ (omega arith)) c.find_word.ensures c.in-Some.is
     c.with-links.ensures
-
-pub returns : goal.returns
-returns c =
-    let m : length c.args.d.dependencies ≡ max_dependencies = search rules in
-    let n = length-take-le c.args.d.count c.args.d.dependencies (omega arith) in
-    linking_all c.loop-dependency.invariant (omega arith)
 
 pub returns-in_default : goal.returns-in_default
 returns-in_default c =
