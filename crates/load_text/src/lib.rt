@@ -128,6 +128,8 @@ pub fn byte_at(s: &[u8], i: usize) -> u8
     s.get(i).copied().unwrap_or(0)
 }
 
+// The three ends are a chain each: one function for them would take the class as a closure, and its callers be as long as these.
+
 // Where the line that begins at i ends.
 pub fn line_end(s: &[u8], i: usize) -> usize
     ensures { result ≡ i + length (line_of (drop i s.now)) }

@@ -172,8 +172,8 @@ impl Sizes {
     }
 }
 
-// The scan and the two writers below walk the same steps, each with a match of its own: one walk for all three would take a closure that stores into
-// what it captures (sizes, buffer), and its contract, FoldsTo over the closure's states, would stand in each of them beside what it is to mean.
+// The scan and the two writers walk the same steps, each with its own match: one walk would take a closure that stores into what it captures, and
+// a contract on the closure's states (FoldsTo) would stand in all three.
 
 // What a value is: the sizes of its tokens, or its first fault.
 #[tactic(auto, using(crate::proofs::Loops::told_bad, crate::proofs::Loops::told_fault, crate::proofs::Loops::told_all))]
