@@ -320,6 +320,7 @@ AlwaysFormed = (t : Table) → table_formed t ≡ true → (cs : List Call) → 
 -- rules/Rules           running, nothing_to_end, due, deadline_in, fits, lost_to_user, abandoned, released, begun_phase, begun_live, begun_deadline,
 --                       begun, ending, expired, left_by, leaves, begun_action, term_action, end_action, expired_action, handed_by, hands, Step,
 --                       rules, chosen_from, chosen, act, act_on, next_action
+-- rules/Choice          Choice
 -- rules/Events          each, start_reaches, revived_cause, started_as, after_start, stopped_phase, stopped, after_stop, after_stop_all, dead,
 --                       started_up, brings, ended_as, after_end, after_clock
 -- rules/Settling        window_over, window_now, count_now, limit_reached, settled_wanted, settled_aside, settled_not_before, settled_window,
