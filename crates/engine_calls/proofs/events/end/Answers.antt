@@ -41,4 +41,3 @@ returns-then-is_formed c = simp (c.refused-then-is_formed.ensures, le-ltb _ _ c.
 pub returns : goal.returns
 unfolding outcome check
 returns c = simp (c.refused-2.ensures, c.if-is_formed.false, ← c.is_formed.ensures)
-

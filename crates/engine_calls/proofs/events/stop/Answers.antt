@@ -12,4 +12,3 @@ returns c = search (stop_done, stop_absent, stop_ill)
 pub returns-then-s-n : goal.returns-then-s-n
 unfolding record_at with_record
 returns-then-s-n c = search stop_done
-
