@@ -3,7 +3,7 @@ ghost use Rattle.std.specs.Prelude.{◌<◌};
 ghost use Rattle.service.specs.Limits.{max_services};
 
 use base::single_of;
-use service::{Kind, MAX_SERVICES, Phase, Record, Settings, State, Table};
+use service::{Kind, Phase, Record, Settings, State, Table};
 
 // The numbers of services.
 pub(crate) const SMALL: usize = 2;
@@ -19,19 +19,15 @@ pub(crate) const UP_CLOCK: u64 = 1000000;
 pub(crate) fn modulo(k: usize, n: usize) -> usize
     ensures { result < max_services }
 {
-    if n == SMALL {
-        return k % SMALL;
+    match n {
+        SMALL => k % SMALL,
+        MIDDLE => k % MIDDLE,
+        _ => k % LARGE,
     }
-    if n == MIDDLE {
-        return k % MIDDLE;
-    }
-    k % LARGE
 }
 
 // The place of service i in the order of the dependencies.
-fn place_of(i: usize, n: usize) -> usize
-    ensures { result < max_services }
-{
+fn place_of(i: usize, n: usize) -> usize {
     modulo(13 * (i % LARGE), n)
 }
 
@@ -43,80 +39,58 @@ pub(crate) fn service_at(place: usize, n: usize) -> usize
 
 // The service that is `back` places before this one, as a set; the empty set where there is none.
 fn dependency(place: usize, back: usize, n: usize) -> u64 {
-    if back <= place {
-        return single_of(service_at(place - back, n), true);
+    match place.checked_sub(back) {
+        Some(before) => single_of(service_at(before, n), true),
+        None => 0,
     }
-    0
 }
 
 fn is_internal(i: usize) -> bool {
     i % 8 == 7
 }
 
-fn kind_of(i: usize) -> Kind {
-    if is_internal(i) {
-        Kind::Internal
-    } else {
-        Kind::Process
-    }
-}
-
 fn settings_of(i: usize, n: usize) -> Settings {
     let place = place_of(i, n);
-    let by_default = Settings::default();
     Settings {
-        kind: kind_of(i),
+        kind: if is_internal(i) {
+            Kind::Internal
+        } else {
+            Kind::Process
+        },
         restart: true,
         hard: dependency(place, 1, n),
         milestone: dependency(place, 2, n),
         soft: dependency(place, 3, n),
-        ..by_default
+        ..Settings::default()
     }
 }
 
 pub(crate) fn table_of(n: usize) -> Table {
     let mut t = Table::empty();
-    let mut i: usize = 0;
-    while i < MAX_SERVICES {
-        if i < n {
-            let v = settings_of(i, n);
-            t.services[i] = v;
-        }
-        i += 1;
+    for (i, v) in t.services.iter_mut().enumerate().take(n) {
+        *v = settings_of(i, n);
     }
     t.count = n;
     t
 }
 
-fn phase_of(up: bool) -> Phase {
-    if up { Phase::Up } else { Phase::Waiting }
-}
-
-// The first service's not-before; the others have 0.
-fn time_of(i: usize, first: u64) -> u64 {
-    if i == 0 { first } else { 0 }
-}
-
 pub(crate) fn record_of(i: usize, up: bool, not_before: u64) -> Record {
-    let mut r = Record::fresh();
-    r.phase = phase_of(up);
-    r.wanted = true;
-    r.live = up & !is_internal(i);
-    r.not_before = not_before;
-    r
+    Record {
+        phase: if up { Phase::Up } else { Phase::Waiting },
+        wanted: true,
+        live: up && !is_internal(i),
+        not_before,
+        ..Record::fresh()
+    }
 }
 
 // Up below the given place, waiting from there on; service 0 may have a not-before.
 pub(crate) fn state_up_to(first_waiting: usize, n: usize, not_before: u64) -> State {
     let mut x = State::fresh();
     x.clock = UP_CLOCK;
-    let mut i: usize = 0;
-    while i < MAX_SERVICES {
-        if i < n {
-            let r = record_of(i, place_of(i, n) < first_waiting, time_of(i, not_before));
-            x.records[i] = r;
-        }
-        i += 1;
+    for (i, r) in x.records.iter_mut().enumerate().take(n) {
+        let up = place_of(i, n) < first_waiting;
+        *r = record_of(i, up, if i == 0 { not_before } else { 0 });
     }
     x
 }

@@ -3,22 +3,14 @@ use std::fs::File;
 use std::rt::Files;
 use std::{fs, str};
 
-// At a link, what it leads to is looked at.
-fn is_regular(files: &impl Files, path: &str) -> bool {
-    match fs::metadata(files, path) {
-        Ok(known) => known.is_file(),
-        Err(_) => false,
-    }
-}
-
 // Opens a regular file, or a link to one, for reading, and answers it, or none. What takes the file's place between the look and the
 // opening is opened as it is: that no pipe does is not promised.
 pub(crate) fn open_regular<R: Files>(files: &R, name: &[u8]) -> Option<R::File> {
-    let Ok(path) = str::from_utf8(name) else {
-        return None;
-    };
-    if !is_regular(files, path) {
-        return None;
+    let path = str::from_utf8(name).ok()?;
+    // At a link, what it leads to is looked at.
+    if fs::metadata(files, path).ok()?.is_file() {
+        File::open(files, path).ok()
+    } else {
+        None
     }
-    File::open(files, path).ok()
 }
