@@ -31,9 +31,9 @@ POINTS = {
 FORM = (r"while|loop|index|match|switch|numbers?|flags?|answers?|structs?|enums?|types?|counts?|casts?|cop(?:y|ies)|constants?|twins?|arrays?|buffers?|slices?|places?|"
         r"search|order|minimum|fold|tests?|names?|functions?|method[^:]*|parameters?|facts?|hand|cases?|chain|forms?|other")
 KEPT = re.compile(rf"//+ (?:An?|Own|Two|Three|No|By)(?: [\w'`]+){{0,4}}? (?:{FORM}): |"
-                  r"//.*(?:would cost|costs? a copy|allocates nothing|no plainer|is plainer|slower|faster|did not (?:prove|close)|does not (?:prove|close)|guarantee's|theorem)")
+                  r"//.*(?:[Pp]aper 01 asks for|would take|would cost|costs? a copy|allocates nothing|no plainer|is plainer|slower|faster|did not (?:prove|close)|does not (?:prove|close)|guarantee's|theorem)")
 
-INSIDE = re.compile(r"//+ (?:An?|Two|No) (?:while|loops?|index|match|switch|search|fold|minimum|list|order)\b[^:]*: ")
+INSIDE = re.compile(r"//+ (?:An?|Two|No) (?:while|loops?|index|match|switch|search|fold|minimum|list|order)\b[^:]*: |//.*(?:[Pp]aper 01 asks for|would take)")
 
 # The names of a case or a field that say whether there is a value.
 NONE = {"None", "Nothing", "Unknown", "Off", "Bad", "Refused", "Malformed", "Unreadable", "Invalid", "Missing", "Absent", "Failed", "Error"}
@@ -186,7 +186,10 @@ class Places:
     @staticmethod
     def above(file, line):
         found = []
-        while line > 1 and re.match(r"\s*(//|#\[)", file.lines[line - 2]):
+        while line > 1 and re.match(r"\s*(//|#\[|$)", file.lines[line - 2]):
+            # A comment that stands by itself, with an empty line below it, counts too.
+            if not file.lines[line - 2].strip() and not (line > 2 and file.lines[line - 3].lstrip().startswith("//")):
+                break
             found.append(file.lines[line - 2].strip())
             line -= 1
         return found
@@ -211,8 +214,11 @@ class Places:
             bare, full = [c for c, value in cases if not value], [c for c, value in cases if value]
             if len(cases) == 2 and len(bare) == len(full) == 1:
                 self.add(1, file, at, "an enum like Option or Result")
-            elif len(cases) == 2 and len(full) == 2 and FAULTS & set(full):
+            elif len(cases) == 2 and len(full) == 2 and len(FAULTS & set(full)) == 1:
                 self.add(1, file, at, "an enum like Result")
+            elif len(full) == len(cases) and set(full) <= FAULTS:
+                # an enum of errors
+                continue
             elif (NONE if full else NONE - FAULTS | {"Unknown", "Off"}) & set(bare) or FAULTS & set(full):
                 self.add(1, file, at, "an enum with a case for none or a fault")
         for file in self.files:
