@@ -31,9 +31,9 @@ POINTS = {
 FORM = (r"while|loop|index|match|switch|numbers?|flags?|answers?|structs?|enums?|types?|counts?|casts?|cop(?:y|ies)|constants?|twins?|arrays?|buffers?|slices?|places?|"
         r"search|order|minimum|fold|tests?|names?|functions?|method[^:]*|parameters?|facts?|hand|cases?|chain|forms?|other")
 KEPT = re.compile(rf"//+ (?:An?|Own|Two|Three|No|By)(?: [\w'`]+){{0,4}}? (?:{FORM}): |"
-                  r"//.*(?:[Pp]aper 01 asks for|would take|would cost|costs? a copy|allocates nothing|no plainer|is plainer|slower|faster|did not (?:prove|close)|does not (?:prove|close)|guarantee's|theorem)")
+                  r"//.*(?:[Pp]aper 01 asks for|would take a closure|would cost|costs? a copy|allocates nothing|no plainer|is plainer|slower|faster|did not (?:prove|close)|does not (?:prove|close)|guarantee's|theorem)")
 
-INSIDE = re.compile(r"//+ (?:An?|Two|No) (?:while|loops?|index|match|switch|search|fold|minimum|list|order)\b[^:]*: |//.*(?:[Pp]aper 01 asks for|would take)")
+INSIDE = re.compile(r"//+ (?:An?|Two|No) (?:while|loops?|index|match|switch|search|fold|minimum|list|order)\b[^:]*: |//.*(?:[Pp]aper 01 asks for|would take a closure)")
 
 # The names of a case or a field that say whether there is a value.
 NONE = {"None", "Nothing", "Unknown", "Off", "Bad", "Refused", "Malformed", "Unreadable", "Invalid", "Missing", "Absent", "Failed", "Error"}
