@@ -57,6 +57,7 @@ impl PerRule<u64> {
     }
 
     // The sets with service s as well.
+    // Two parameters: settings and record lie in two arrays of the host, and each rule takes of the two only what it asks for.
     pub fn fit(self, now: u64, v: Settings, r: Record, st: Standing, s: usize) -> PerRule<u64>
         ensures { result ≡ fitted_in self now v r st s }
     {

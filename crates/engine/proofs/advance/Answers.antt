@@ -1,4 +1,5 @@
--- `advance` meets its contract: k actions are handed out; in each step two passes gather the sets, and the choice is made from them.
+-- `advance` meets its contract: k actions are handed out; in each step two passes gather the sets, and the choice is made from them. The table has
+-- its places, so that what is read of one of them is the settings there (settings_read).
 use native.Mathlib.Nat.{le_trans}
 use mathlib.Core.Path.{◌≡◌}
 use lib.ListN.{length}
@@ -20,17 +21,13 @@ pub loop-i-preserved : goal.loop-i-preserved
 unfolding record_at
 loop-i-preserved c =
     let more = c.loop-i-test.true in
-    -- the table has its places, so that what is read of one of them is the settings there
-    let places : length c.args.t.services ≡ max_services = search (rules, length_mapped) in
-    noting_more c.args.t c.loop-k.y c.loop-i.invariant more (settings_read c.args.t _ _ places (le_trans more c.requires.1)) c.noted-st.ensures
+    noting_more c.args.t c.loop-k.y c.loop-i.invariant more (settings_read c.args.t _ _ (search (rules, length_mapped)) (le_trans more c.requires.1)) c.noted-st.ensures
 
 pub loop-j-preserved : goal.loop-j-preserved
 unfolding record_at
 loop-j-preserved c =
     let more = c.loop-j-test.true in
-    -- the table has its places, so that what is read of one of them is the settings there
-    let places : length c.args.t.services ≡ max_services = search (rules, length_mapped) in
-    fitting_more c.loop-j.invariant more (settings_read c.args.t _ _ places (le_trans more c.requires.1)) c.fit-f.ensures
+    fitting_more c.loop-j.invariant more (settings_read c.args.t _ _ (search (rules, length_mapped)) (le_trans more c.requires.1)) c.fit-f.ensures
 
 pub returns-in_default : goal.returns-in_default
 returns-in_default c = search turn_quiet
@@ -40,12 +37,10 @@ returns-in_default c = search turn_quiet
 pub loop-k-preserved : goal.loop-k-preserved
 unfolding record_at with_record
 loop-k-preserved c =
-    -- the table has its places, so that what is read of one of them is the settings there
-    let places : length c.args.t.services ≡ max_services = search (rules, length_mapped) in
     let inside = turn_inside c.loop-k.invariant c.requires.1 c.loop-j.invariant c.loop-j-test.false c.choose.ensures c.in-Some.is in
     turn_on c.loop-k.invariant c.requires.1 c.loop-j.invariant c.loop-j-test.false
     c.choose.ensures c.loop-k-test.true c.in-Some.is
-    (settings_read c.args.t _ _ places inside)
+    (settings_read c.args.t _ _ (search (rules, length_mapped)) inside)
     c.overlaps-user.ensures c.leave-q.ensures c.hand_out-last.ensures
     c.write_action.ensures.services_after c.write_action.ensures.actions_after
 
