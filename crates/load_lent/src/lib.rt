@@ -10,7 +10,8 @@ ghost use Rattle.load_lent.specs.Refusals.{bare, refused_in};
 use load_text::{Fault, Wrong, column_number, line_number, part, same_bytes};
 use load_word::is_name;
 
-// What refuses a set: paper 01's number, with the service, the line and the column.
+// What refuses a set: paper 01's number, with the service, the line and the column, 0 where there is none.
+// Numbers all: guarantee's RefusalsPoint and the calls over plain numbers speak of a refusal by them.
 #[derive(Clone, Copy, Debug, PartialEq, Eq)]
 pub struct Refused {
     pub number: u8,

@@ -66,6 +66,7 @@ fn read_into(
     Ok(ds)
 }
 
+// The loop is a function of its own: its goals would hold the list of all places (docs/PROVING.md).
 fn read_texts(set: Set) -> Result<[Description; MAX_SERVICES], Refused>
     ensures { result ≡ descriptions_from (texts_of set.entry.lent) no_descriptions 0 (services_of set.entry.lent) }
 {
@@ -140,6 +141,7 @@ fn try_load(lent: Lent, tokens: &mut [u8]) -> Result<Loaded, Refused>
     ensures { ◌≡◌ {A = Outcome} (outcome tokens.new result) (load lent.entry.bytes.now lent.entry.ends.now tokens.old) }
 {
     let set = Set::new(lent)?;
+    // The set's own, so that all that the checks say is of one.
     let lent = set.lent;
     if !lent.is_positioned() {
         return Err(Refused::bare(2, 0));

@@ -8,7 +8,7 @@ ghost use Rattle.loader.specs.Tokens.{command_bytes, command_count, kept_of, pla
 use load_description::{Description, value_at};
 use load_value::{scan_value, write_value};
 
-// Where the tokens of a command begin in the lent buffer, and how many they are.
+// Where the tokens of a command begin in the lent buffer, and how many they are, 0 of no command: no Option beside the count.
 #[derive(Clone, Copy)]
 pub struct Tokens {
     pub at: usize,
