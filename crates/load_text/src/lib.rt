@@ -50,6 +50,7 @@ pub struct Fault {
 }
 
 // Where a line's property name begins and ends, and where its value begins.
+// Three places: a fault is told by its offset, which slices of the line would lose.
 #[derive(Clone, Copy)]
 pub struct Places {
     pub from: usize,
@@ -122,6 +123,7 @@ fn head(s: &[u8], to: usize) -> &[u8]
 }
 
 // The byte at i, or 0 past the end.
+// Two parameters: a slice and a place in it, as `get` of a slice takes them.
 pub fn byte_at(s: &[u8], i: usize) -> u8
     ensures { result ≡ get_or s.now i 0 }
 {

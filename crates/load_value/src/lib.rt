@@ -24,6 +24,7 @@ pub struct Mode {
 }
 
 // What a byte does, with the next mode: nothing more, open a quoted stretch, be kept, or end a token; or it is malformed.
+// An enum: each byte does one of five things, and the walks that write end at the fifth; a Result of the other four would be matched twice.
 #[derive(Clone, Copy)]
 pub enum Step {
     Skip(Mode),
@@ -206,6 +207,7 @@ pub fn scan_value(s: &[u8]) -> Result<Sizes, Fault>
 }
 
 // Stores a byte where there is room, and returns the next place.
+// A place beside a buffer: what does not fit is dropped and still counted (Puts), so the place goes on where a slice would end.
 fn put(buffer: &mut [u8], at: usize, b: u8) -> usize
     requires { at < 9223372036854775808 }
     ensures { Put buffer.old at b buffer.new result }

@@ -12,6 +12,7 @@ use load_text::{LONGEST_NAME, is_digit, is_name_byte, same_bytes};
 use service::{Kind, LONGEST_TIME, MAX_COUNT, Settings, Signal};
 
 // A property by what its value is: the type; a word that the settings hold; a command; the name of a service that is depended on.
+// An enum: property_of has the unknown one among its five cases, and an Option of the other four would be matched in two steps.
 #[derive(Clone, Copy)]
 pub enum Property {
     Kind,
@@ -50,6 +51,7 @@ pub enum Link {
 }
 
 // A decimal number as it is read: its digits before and after the point, their value without the point, a point.
+// A flag: right after the point there is no digit yet, so the digits after it do not tell whether it stood.
 #[derive(Clone, Copy)]
 pub struct Decimal {
     pub whole: usize,
@@ -252,6 +254,7 @@ pub fn with_kind(kind: Kind, v: Settings) -> Settings
 }
 
 // The settings with a word as the value of one of them; none where the word is outside the rule.
+// A match: each setting has its rule and its field, as `setting_of` of the definitions.
 #[tactic(auto, unfolding(crate::specs::Properties::setting_of))]
 pub fn read_setting(s: Setting, word: &[u8], v: Settings) -> Option<Settings>
     ensures { result ≡ setting_of s word.now v }
