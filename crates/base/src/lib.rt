@@ -47,7 +47,7 @@ pub fn overlaps(a: u64, b: u64) -> bool
 }
 
 // The lowest number in the set, or 64 where there is none.
-// A number for none: so `first` of the definitions has it, and 64 is past every place, which is all that a caller asks.
+// A number: `first` of the definitions has the bound itself for none, and that 64 is past every place is all that a caller asks.
 pub fn lowest_of(m: u64) -> usize
     ensures { result ≡ first (has_bit m) 64 }
 {
@@ -62,7 +62,7 @@ pub fn lowest_outside(m: u64) -> usize
 }
 
 // The lowest number below n in the set, or n where there is none: n joins the set, if it has a place in it.
-// A number for none: so `first` of the definitions has it, and one count of zeros gives it with no test of its own.
+// A number: `first` of the definitions has the bound itself for none, and one count of zeros gives it with no test of its own.
 pub fn lowest(m: u64, n: usize) -> usize
     ensures { result ≡ first (has_bit m) n }
 {
