@@ -221,16 +221,32 @@ def words_of(texts, part):
         if len(pieces) < 4 or pieces[2] != part or not path.endswith(".antt"):
             continue
         now, names = None, names_of(text)
+        # The modules that a line stands in, each with its indent and what it takes; its header may go over lines.
+        modules, header = [], None
         for k, line in enumerate(text.split("\n"), 1):
             line = re.sub(r"(^|\s)--.*", "", line)
-            if not line.strip() or re.match(r"(use|module)\b|\}|\)$", line):
-                if re.match(r"(use|module)\b", line):
+            indent = len(line) - len(line.lstrip())
+            if line.strip() and header is None:
+                while modules and indent <= modules[-1][0]:
+                    modules.pop()
+            if header is None and re.match(r"\s*module\b", line) and indent == 2 * len(modules):
+                header, now = (indent, ""), None
+            if header:
+                header = header[0], header[1] + " " + line.strip()
+                if re.search(r"\bwhere$", line.strip()):
+                    modules.append((header[0], re.sub(r"^ module \S+|where$", "", header[1]).strip()))
+                    header = None
+                continue
+            line = line[2 * len(modules) :]
+            if not line.strip() or re.match(r"use\b|\}|\)$", line):
+                if re.match(r"use\b", line):
                     now = None
                 continue
             m = shaped.match(line) or plain.match(line)
             if m and not line.startswith(" "):
                 now = Word(pieces[1], path, k, m.group(1).strip(), m.group(2), m.group(3) or "")
                 now.typing, now.names = True, names
+                now.given = " ".join(g for _, g in modules if g)
                 if m.re is shaped:
                     now.of = now.of.lstrip(": ")
                 out.append(now)
@@ -245,7 +261,7 @@ def words_of(texts, part):
                 now.typing = "data" in now.form or "record" in now.form
                 now.rest.append(line.strip())
     for w in out:
-        w.of = one_line(w.of)
+        w.of = one_line(f"{w.given} → {w.of}" if w.given and w.lemma else w.of)
     return out
 
 
@@ -383,6 +399,11 @@ NOW = {
     **{("engine_record_tests", n): "`==` of `service::Phase`, derived: the check finds that `p == Phase::..` is `" + n + " p`" for n in ("is_down", "is_waiting", "is_starting", "is_up", "is_ending")},
     **{("engine_record_tests", n): "`==` of `service::Cause`, derived, in the same way" for n in ("is_none", "is_user")},
     ("engine_record_tests", "is_active"): "`service::Phase::is_active`",
+    ("bench", "read_full"): "`read_to_end` of std, of no more than there is room for (`take`)",
+    ("simulate", "read_full"): "`read_to_end` of std, of no more than there is room for (`take`)",
+    ("simulate", "line_after"): "the library's `split_inclusive`",
+    ("check_services", "least"): "`usize::min`",
+    ("check_services", "read_up"): "`Buffer::read`, and the facts of `Buffer`",
     ("engine", "refuse_run"): "`service::Answered::refused`",
     ("engine_calls", "refuse"): "`service::Answered::refused`",
     ("engine_choice", "choose_later"): "`choose`",
@@ -454,6 +475,8 @@ NOW = {
     ("service", "sent_number"): "`Action::number`",
 }
 
+PROGRAMS = ("bench", "check_services", "simulate")
+
 # What stands for a type or the constants that are gone; for what is not named, by crate and kind.
 TYPES_NOW = {
     ("engine_choice", "Fits"): "`PerRule<u64>`",
@@ -511,6 +534,25 @@ WORDS_NOW = {
     ("scenario_services", "least"): "the library's `min`",
 }
 
+# What states a lemma that is gone: for what is not named below, the contracts or the laws of its crate.
+SERVED = {
+    "links": "the contracts of `has_cycle` and `reach_of`",
+    "load_description": "the contracts of the methods of `Description`",
+    "load_lent": "the contracts of `Lent::find`, `Lent::check_names`, `Lent::check_sizes` and `Refused::within`",
+    "load_links": "the contracts of `resolve`, `make`, `make_services` and `lowest_cyclic`",
+    "load_reader": "the contracts of `read_line`, `read_property` and `read_lines`",
+    "load_text": "the contracts of `opening_of`, `line_number`, `column_number` and `same_bytes`, and the laws of the chains in them (Chains.antt)",
+    "load_value": "the contract of `scan_value`",
+    "load_word": "the contracts of `read_setting`, `find_property` and `is_name`",
+    "loader": "the contracts of `try_load` and of what it calls, and `every_load`",
+    "plain": "the contracts of `event`, `next_action`, `run_to_quiet`, `query` and `load`",
+    "plain_encoding": "`copied_placed`, `line_placed`, `read_all`, for both",
+    "scenario_lines": "the contracts of `read_line` and of what it calls",
+    "scenario_replies": "the contract of `next_reply`",
+    "scenario_services": "the contracts of the methods of `Given`, and `put_sets`, `kept_put`",
+    "scenario_words": "the contracts of `number`, `number_to`, `piece` and `place`, and what the library's `split` gives",
+}
+
 LEMMAS_NOW = {(crate, name): now for crate, of, now in (
     ("links", "rounds_answer", "the contract of `has_cycle`, which says the limit of rows itself"),
     ("load_description", "word_at_fits", "`word_fits`, and the invariant of `Word`"),
@@ -537,14 +579,10 @@ LEMMAS_NOW = {(crate, name): now for crate, of, now in (
     ("plain_encoding", "same_written", "the way back of both (`EncodingLaws`)"),
     ("plain_encoding", "Reading state_read table_read", "`read_all`, for both"),
     ("plain_encoding", "Writing table_more", "`line_placed`, for both"),
-    ("scenario_lines", "Fitting needed_told after_read", "the contracts of `read_line` and of what it calls"),
     ("scenario_replies", "next_quiet next_action_lem next_refused", "the cases of `next_reply`"),
     ("scenario_services", "take_few", "the contract of `leading`"),
     ("scenario_services", "part_none", "`ranged`"),
     ("scenario_services", "fitting_full take_none fitting_none fitting_next Keeping keeping_none", "`put_sets`, `sets_none`, `kept_put`"),
-    ("scenario_words", "Reading number_held", "the contracts of `number` and `number_to`"),
-    ("scenario_words", "grow_first grow_later grow_count pieces_some Ending ending_none Starting starting_none Counting counting_none Begins first_take piece_part Choosing",
-     "`pieces_split`: the pieces are those of the library's `split`"),
 ) for name in of.split()}
 
 
@@ -587,6 +625,8 @@ class Compared:
         """What states now what a function that is gone promised."""
         if (i.crate, i.full) in NOW:
             return NOW[i.crate, i.full]
+        if i.crate in PROGRAMS and not i.says:
+            return "nothing: they had no contract; `stdout/` holds what the program writes"
         head = head_of(i.says)
         if head:
             places = [n for n in self.now if n.crate == i.crate and re.search(rf"(?<![\w.]){re.escape(head)}\b", n.says)]
@@ -750,7 +790,7 @@ class Page(Compared):
         for a in was:
             found = stands.get((a.crate, a.name))
             if not found:
-                gone[a.crate, LEMMAS_NOW.get((a.crate, a.name)) or "?"].append(a.name)
+                gone[a.crate, LEMMAS_NOW.get((a.crate, a.name)) or SERVED.get(a.crate) or "?"].append(a.name)
                 continue
             b = next((w for w in found if w.path == a.path), found[0])
             if a.name in named and a.form.endswith("pub"):
