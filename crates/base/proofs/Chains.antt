@@ -3,7 +3,7 @@
 use Prim.Native.Nat.{ℕ, zero, suc, ◌+◌, ◌<◌}
 use native.Mathlib.Omega.{arith}
 use mathlib.Core.Path.{◌≡◌, refl, ap, subst, ◌∙◌}
-use mathlib.Core.Bool.{Bool, true, false, ◌&&◌, ◌||◌}
+use mathlib.Core.Bool.{Bool, true, false, ◌&&◌, ◌||◌, and-true, or-false}
 use mathlib.Core.List.{List, [], ◌∷◌, ◌++◌}
 use denote.Param.Members.{Mut}
 use lib.ListN.{get_or}
@@ -22,7 +22,6 @@ use Rattle.std.proofs.lemmas.List.Folds.{list_any-append, list_all-append}
 use Rattle.std.proofs.lemmas.List.Sums.{fold-append}
 use Rattle.base.specs.Folds.{fold, some, every}
 use Rattle.base.proofs.Filled.{Filled}
-use Rattle.base.proofs.Tests.{and_all, or_none}
 
 -- the numbers below n + 1 are those below n, and n
 range_more : (a n : ℕ) → range_with_len a (suc n) ≡ range_with_len a n ++ (a + n) ∷ []
@@ -44,14 +43,14 @@ unfolding some
 some_below p zero = refl
 some_below p (suc n) =
     ap (list_any p) (below_more n) ∙ list_any-append p (range_with_len 0 n) (n ∷ [])
-    ∙ rw (or_none (p n)) (ap (λ b. b || p n) (some_below p n))
+    ∙ rw (or-false (p n)) (ap (λ b. b || p n) (some_below p n))
 
 every_below : (p : ℕ → Bool) (n : ℕ) → list_all p (range_with_len 0 n) ≡ every p n
 unfolding every
 every_below p zero = refl
 every_below p (suc n) =
     ap (list_all p) (below_more n) ∙ list_all-append p (range_with_len 0 n) (n ∷ [])
-    ∙ rw (and_all (p n)) (ap (λ b. b && p n) (every_below p n))
+    ∙ rw (and-true (p n)) (ap (λ b. b && p n) (every_below p n))
 
 abbrev below : ℕ → Range ℕ
 below n = record { start = 0; end = n }

@@ -3,20 +3,20 @@
 use Prim.Native.Nat.{ℕ, zero, suc, ◌<◌}
 use native.Mathlib.Nat.{not-suc-le-zero, le_of_suc-le-suc, eq-or-lt_of_le}
 use mathlib.Core.Path.{◌≡◌, sym, ◌∙◌}
-use mathlib.Core.Bool.{Bool, true, false, ◌||◌, ◌&&◌}
+use mathlib.Core.Bool.{Bool, true, false, ◌||◌, ◌&&◌, or-false}
 use mathlib.Core.Logic.{◌↔◌, ◌⊎◌, inl, inr}
 use lib.Bits.{bit_or}
 use Rattle.base.specs.Folds.{pick}
 use Rattle.base.specs.Sets.{has_bit}
 use Rattle.base.specs.Links.{Path, link, on, reach, through, cyclic}
-use Rattle.base.proofs.Tests.{and_true, or_none, or_true, either, not_both}
+use Rattle.base.proofs.Tests.{and_true, or_true, either, not_both}
 use Rattle.base.proofs.Below.{some_true}
 use Rattle.base.proofs.Bits.{has_bit_or}
 
 -- what is in a set that was joined with another where it has k
 through_bit : (q : Bool) (a b j : ℕ) → has_bit (pick q (bit_or a b) a) j ≡ (has_bit a j || (q && has_bit b j))
 through_bit true a b j = has_bit_or a b j
-through_bit false a b j = sym (or_none (has_bit a j))
+through_bit false a b j = sym (or-false (has_bit a j))
 
 module _ (k a b j : ℕ) where
   pub through_kept : has_bit a j ≡ true → has_bit (through k a b) j ≡ true

@@ -4,22 +4,22 @@ use native.Mathlib.Nat.{not-suc-le-zero, le_of_suc-le-suc, le_refl, lt_of_le_of_
 use native.Mathlib.Nat.{mod-eq_of_lt, mod-one, one-mul, zero-add, zero-mul}
 use native.Mathlib.Omega.{arith}
 use mathlib.Core.Path.{◌≡◌, refl, sym, ap, ◌∙◌}
-use mathlib.Core.Bool.{Bool, true, false, ◌||◌, ◌&&◌, not, false≢true}
+use mathlib.Core.Bool.{Bool, true, false, ◌||◌, ◌&&◌, not, false≢true, and-true, and-false, or-true, or-false}
 use mathlib.Core.Logic.{◌⊎◌, inl, inr}
 use lib.Dec.{eqb, eqb-suc-zero}
 use lib.Pow.{pow_pos, pow_mono, pow-lt, mod-pow-add, shl_exact}
 use lib.Bits.{bit_and, and_le_r, or_lt}
 use Rattle.base.specs.Folds.{implies, some, every, first}
 use Rattle.base.specs.Sets.{has_bit, single, kept, overlap, marked, union}
-use Rattle.base.proofs.Tests.{and_all, and_none, either, or_all, or_none}
+use Rattle.base.proofs.Tests.{either}
 use Rattle.base.proofs.Below.{some_as, first_as}
 use Rattle.base.proofs.Loops.{first_none}
 use Rattle.base.proofs.Bits.{has_bit_or, has_bit_and, has_bit_none, has_bit_small, power_at, power_over}
 
 -- a digit at k and what is below it are 0 together where both are
 digit_zero : (d q r : ℕ) → 0 < q → d < 2 → not (eqb (d * q + r) 0) ≡ (not (eqb r 0) || eqb d 1)
-digit_zero zero q r h l = ap (λ m. not (eqb m 0)) (ap (λ m. m + r) (zero-mul q) ∙ zero-add r) ∙ sym (or_none (not (eqb r 0)))
-digit_zero (suc zero) (suc q) r h l = ap (λ m. not (eqb m 0)) (one r) ∙ ap not (eqb-suc-zero (q + r)) ∙ sym (or_all (not (eqb r 0)))
+digit_zero zero q r h l = ap (λ m. not (eqb m 0)) (ap (λ m. m + r) (zero-mul q) ∙ zero-add r) ∙ sym (or-false (not (eqb r 0)))
+digit_zero (suc zero) (suc q) r h l = ap (λ m. not (eqb m 0)) (one r) ∙ ap not (eqb-suc-zero (q + r)) ∙ sym (or-true (not (eqb r 0)))
   where
     one : (r : ℕ) → 1 * suc q + r ≡ suc (q + r)
     one r = omega arith
@@ -59,8 +59,8 @@ single_lt i true = pow-lt (le_refl (suc i))
 single_lt i false = pow_pos (suc i)
 
 pub kept_bit : (b : Bool) (m s : ℕ) → has_bit (kept b m) s ≡ (has_bit m s && b)
-kept_bit true m s = sym (and_all (has_bit m s))
-kept_bit false m s = has_bit_none s ∙ sym (and_none (has_bit m s))
+kept_bit true m s = sym (and-true (has_bit m s))
+kept_bit false m s = has_bit_none s ∙ sym (and-false (has_bit m s))
 
 pub marked_lt : (p : ℕ → Bool) (n : ℕ) → marked p n < 2 ^ n
 marked_lt p zero = pow_pos 0
@@ -75,7 +75,7 @@ marked_bit p (suc n) i l =
     ∙ either
     (eq-or-lt_of_le (le_of_suc-le-suc l))
     (λ (q : i ≡ n). rw (q, has_bit_small (marked p n) n (marked_lt p n)) (single_at n (p n)))
-    (λ (q : i < n). rw (single_over n i (p n) q) (or_none (has_bit (marked p n) i) ∙ marked_bit p n i q))
+    (λ (q : i < n). rw (single_over n i (p n) q) (or-false (has_bit (marked p n) i) ∙ marked_bit p n i q))
 
 -- for dependencies: some d below n in m has p
 pub marked_overlap : (p : ℕ → Bool) (m n : ℕ) → overlap m (marked p n) ≡ some (λ d. has_bit m d && p d) n

@@ -18,11 +18,6 @@ pub or_not : (b : Bool) → (b ≡ true) ⊎ (b ≡ false)
 or_not true = inl refl
 or_not false = inr refl
 
--- what a test that cannot hold is
-pub refute : (b : Bool) → (b ≡ true → ⊥) → b ≡ false
-refute true h = absurd (h refl)
-refute false h = refl
-
 pub not_true : (a : Bool) → (not a ≡ true) ↔ (a ≡ false)
 not_true true = (λ e. no_ft e, λ e. no_tf e)
 not_true false = (λ e. refl, λ e. refl)
@@ -47,23 +42,6 @@ or_false false b = (λ e. (refl, e), λ h. h.1)
 pub or_true : (a b : Bool) → ((a || b) ≡ true) ↔ ((a ≡ true) ⊎ (b ≡ true))
 or_true true b = (λ e. inl refl, λ h. refl)
 or_true false b = (λ e. inr e, elim [ inl e ↦ no_ft e | inr e ↦ e ])
-
--- a part that settles the test, and one that leaves it to the other
-pub and_none : (a : Bool) → (a && false) ≡ false
-and_none true = refl
-and_none false = refl
-
-pub and_all : (a : Bool) → (a && true) ≡ a
-and_all true = refl
-and_all false = refl
-
-pub or_none : (a : Bool) → (a || false) ≡ a
-or_none true = refl
-or_none false = refl
-
-pub or_all : (a : Bool) → (a || true) ≡ true
-or_all true = refl
-or_all false = refl
 
 pub imp_true : (a b : Bool) → (implies a b ≡ true) ↔ ((a ≡ true) → b ≡ true)
 imp_true true b = (λ e _. e, λ h. h refl)

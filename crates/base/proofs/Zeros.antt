@@ -2,7 +2,7 @@
 use Prim.Native.Nat.{◌%◌, ◌/◌, ◌-◌, ◌^◌, ◌<◌, ◌≤◌, suc, zero, ℕ}
 use native.Mathlib.Nat.{lt_irrefl, lt_of_lt_of_le, not-suc-le-zero, pow-suc}
 use native.Mathlib.Omega.{arith}
-use mathlib.Core.Bool.{Bool, true, false, not, ◌&&◌}
+use mathlib.Core.Bool.{Bool, true, false, not, ◌&&◌, or-true, or-false}
 use mathlib.Core.Path.{◌∙◌, ◌≡◌, ap, refl, subst, sym}
 use borrow.Author.Tests.{lt-ltb, ltb-false, ltb-true}
 use lib.Bits.{bit_or}
@@ -11,7 +11,7 @@ use lib.Dec.{eqb, ltb}
 use lib.Pow.{shr-shr}
 use Rattle.base.specs.Folds.{pick, first, first_from}
 use Rattle.base.specs.Sets.{has_bit, single}
-use Rattle.base.proofs.Tests.{either, not_both, not_false, or_all, or_none, or_not}
+use Rattle.base.proofs.Tests.{either, not_both, not_false, or_not}
 use Rattle.base.proofs.Below.{Sought, before_first, first_as, found, nowhere, sought}
 use Rattle.base.proofs.Loops.{first_lowest, first_none}
 use Rattle.base.proofs.Bits.{has_bit_or}
@@ -79,10 +79,10 @@ module _ (m n x s : ℕ) (alone : x ≡ single n (ltb n 64 && true)) where
   with_n = has_bit (bit_or m x)
 
   same_below : (j : ℕ) → j < n → with_n j ≡ has_bit m j
-  same_below j l = has_bit_or m x j ∙ rw (alone, single_over n j (ltb n 64 && true) l) (or_none (has_bit m j))
+  same_below j l = has_bit_or m x j ∙ rw (alone, single_over n j (ltb n 64 && true) l) (or-false (has_bit m j))
 
   has_n : n < 64 → with_n n ≡ true
-  has_n l = has_bit_or m x n ∙ rw (alone, lt-ltb n 64 l, single_at n true) (or_all (has_bit m n))
+  has_n l = has_bit_or m x n ∙ rw (alone, lt-ltb n 64 l, single_at n true) (or-true (has_bit m n))
 
   pub lowest_below : s ≡ first with_n 64 → s < 64 → s ≡ first (has_bit m) n
   lowest_below e l = go (subst (Sought with_n 64) (sym e) (sought with_n 64)) l

@@ -4,12 +4,12 @@ use borrow.Author.Tests.{eq-eqb, eqb-false, eqb-true, leb-false, leb-true, lt-le
 use lib.Dec.{eqb, leb, ltb}
 use lib.ListN.{drop, drop_of_length-le, get_or, length, length-drop}
 use lib.Seq.{drop-drop, get_or-drop}
-use mathlib.Core.Bool.{Bool, ◌&&◌, ◌||◌, false, not, true}
+use mathlib.Core.Bool.{Bool, ◌&&◌, ◌||◌, false, not, true, or-true}
 use mathlib.Core.List.{List, [], ◌∷◌}
 use mathlib.Core.Logic.{◌⊎◌, inl, inr}
 use mathlib.Core.Path.{◌≡◌, ap, refl, sym, ◌∙◌, subst}
 use native.Mathlib.Omega.{arith}
-use Rattle.base.proofs.Tests.{no_ft, or_all, or_false}
+use Rattle.base.proofs.Tests.{no_ft, or_false}
 use Rattle.std.specs.Prelude.{Err, None, Ok, Option, Result, Some, is_none}
 use Rattle.base.specs.Folds.{pick}
 use Rattle.load_text.specs.Bytes.{is_bad, is_newline, is_property_byte, is_sign, is_white, run}
@@ -346,7 +346,7 @@ next_start s from h =
     let k = from + length (line_of (drop from s)) in
     let z : k + 1 - 1 ≡ k = omega arith in
     let newline : is_newline (get_or s k 0) ≡ true = ap (λ (b : Bool). b || is_newline (get_or s k 0)) (sym (lt-leb (length s) k (omega arith))) ∙ line_ends_at s from in
-    rw (z, newline) (or_all (eqb (k + 1) 0))
+    rw (z, newline) (or-true (eqb (k + 1) 0))
 
 lines_decided : (s : List ℕ) (d : Description) (from : ℕ) (ls : List (List ℕ)) → lines_of (drop from s) ≡ ls → (from < length s → is_start s from ≡ true)
     → TextDecided s (lines_read s d from ls)

@@ -2,7 +2,7 @@
 use Prim.Native.Nat.{ℕ, ◌<◌, ◌≤◌}
 use native.Mathlib.Nat.{lt_of_lt_of_le}
 use mathlib.Core.Path.{◌≡◌, sym, ap, ◌∙◌}
-use mathlib.Core.Bool.{Bool, true, false, not, ◌&&◌, false≢true}
+use mathlib.Core.Bool.{Bool, true, false, not, ◌&&◌, false≢true, and-false}
 use mathlib.Core.List.{List}
 use lib.Dec.{leb}
 use lib.ListN.{length, take}
@@ -10,7 +10,7 @@ use borrow.Author.Tests.{eqb-true, leb-true}
 use Rattle.base.specs.Folds.{first}
 use Rattle.base.specs.Sets.{has_bit, single}
 use Rattle.base.specs.Links.{Path, link, on, reach, cyclic}
-use Rattle.base.proofs.Tests.{and_none, and_true, or_true, either, refute}
+use Rattle.base.proofs.Tests.{and_true, or_true, either}
 use Rattle.base.proofs.Below.{some_false}
 use Rattle.base.proofs.Bits.{has_bit_or, has_bit_and, has_bit_none}
 use Rattle.base.proofs.Sets.{single_only}
@@ -19,6 +19,7 @@ use Rattle.base.proofs.Links.{join, reach_path}
 use Rattle.links.specs.Rows.{rows_as, most_rows}
 use Rattle.links.proofs.Rounds.{front_cyclic}
 use Rattle.links.specs.Descent.{Safe, safe, subset, grown, AllSafe}
+use Rattle.std.proofs.lemmas.Bool.{false_from_ne_true}
 
 -- what is safe is on no cycle
 safe_none : {d : ℕ → ℕ} {i : ℕ} → Safe d i → Path d i i → ⊥
@@ -29,7 +30,7 @@ safe_acyclic : (d : ℕ → ℕ) (n : ℕ) → ((s : ℕ) → s < n → Safe d s
 unfolding cyclic
 safe_acyclic d n f =
     (some_false (λ i. has_bit (reach d n i) i) n).1
-    (λ i l. refute (has_bit (reach d n i) i) (λ e. safe_none (f i l) (reach_path d n i i e)))
+    (λ i l. false_from_ne_true (has_bit (reach d n i) i) (λ e. safe_none (f i l) (reach_path d n i i e)))
 
 subset_bit : (m c j : ℕ) → subset m c ≡ true → has_bit m j ≡ true → has_bit c j ≡ true
 subset_bit m c j e h =
@@ -66,4 +67,4 @@ pub joined_acyclic : (rows : List ℕ) (n : ℕ) {b : Bool} → n ≤ length row
     → false ≡ (leb n most_rows && cyclic (rows_as rows) n)
 joined_acyclic rows n l h e =
     let c = sym (front_cyclic rows n l) ∙ safe_acyclic (rows_as (take n rows)) (length (take n rows)) (h.safes e) in
-    rw c (sym (and_none (leb n most_rows)))
+    rw c (sym (and-false (leb n most_rows)))

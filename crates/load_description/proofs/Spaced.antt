@@ -7,7 +7,8 @@ use Prim.Native.Nat.{ℕ, ◌<◌}
 use native.Mathlib.Omega.{arith}
 use borrow.Author.Tests.{eqb-true}
 use lib.Dec.{eqb}
-use Rattle.base.proofs.Tests.{no_ft, refute, and_true}
+use Rattle.base.proofs.Tests.{no_ft, and_true}
+use Rattle.std.proofs.lemmas.Bool.{false_from_ne_true}
 use Rattle.load_value.specs.Values.{is_word, scan_of, spaced}
 use Rattle.load_value.specs.declared.Sizes.{Sizes}
 use Rattle.std.proofs.Common.{Ok}
@@ -52,7 +53,7 @@ module _ (text : List ℕ) (d : Description) (at seen : ℕ) where
     pub several_read : 1 < z.tokens → (single_read text d p at seen z v ≡ outside seen) × (word_read text d p at seen (spaced v) ≡ outside seen)
     several_read many =
         let q = parted (spaced v) (several_spaced v scan many) in
-        (rw (refute (is_word z) one_token), ap (word_read text d p at seen) q.parts ∙ space_outside p q.before q.after)
+        (rw (false_from_ne_true (is_word z) one_token), ap (word_read text d p at seen) q.parts ∙ space_outside p q.before q.after)
       where
         one_token : is_word z ≡ true → ⊥
         one_token w = let one = ((and_true _ _).0 ((and_true _ _).0 w).0).0 in absurd (omega (arith, many, eqb-true z.tokens 1 one))

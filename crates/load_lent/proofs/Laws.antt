@@ -3,13 +3,12 @@ use Prim.Native.Nat.{◌*◌, ◌+◌, ◌-◌, ◌<◌, ◌≤◌, ℕ}
 use borrow.Author.Tests.{le-ltb, lt-ltb}
 use lib.Dec.{eqb, leb, ltb}
 use lib.ListN.{get_or-eq_default, drop, drop_of_length-le, get_or, length, take}
-use mathlib.Core.Bool.{Bool, ◌&&◌, false, true}
+use mathlib.Core.Bool.{Bool, ◌&&◌, false, true, or-true}
 use mathlib.Core.List.{List, []}
 use mathlib.Core.Path.{◌∙◌, ◌≡◌, ap, refl, sym}
 use native.Mathlib.Omega.{arith}
 use Rattle.std.specs.Prelude.{Ok, Err}
 use Rattle.base.proofs.Counting.{drop_more, one_left}
-use Rattle.base.proofs.Tests.{or_all}
 use Rattle.base.specs.Folds.{pick}
 use Rattle.load_text.specs.Strings.{part_of}
 use Rattle.load_word.specs.Words.{is_name}
@@ -105,7 +104,7 @@ module _ {text : ℕ → List ℕ} {n t j : ℕ} (k : SizesLeft text n t j) wher
     pub sizes_many : longest_texts < t + length w → {r : Refused} → r ≡ bare 5 j → Err r ≡ sizes_from text 0 0 n
     unfolding sizes_from
     sizes_many h b =
-        ap Err b ∙ sym (k.rest ∙ rw (one_left n j l, ← is, lt-ltb longest_texts (t + length w) h, or_all (ltb longest_text (length w))))
+        ap Err b ∙ sym (k.rest ∙ rw (one_left n j l, ← is, lt-ltb longest_texts (t + length w) h, or-true (ltb longest_text (length w))))
 
     pub sizes_fit : length w ≤ longest_text → t + length w ≤ longest_texts → SizesLeft text n (t + length w) (j + 1)
     unfolding sizes_from

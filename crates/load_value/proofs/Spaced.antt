@@ -1,6 +1,6 @@
 -- A value as a string of bytes (`spaced`), and what is read of it: a value of one token is that string, and one of several has a space in it.
 use mathlib.Core.Path.{◌≡◌, refl, sym, ap, ◌∙◌}
-use mathlib.Core.Bool.{Bool, true, false, ◌||◌, ◌&&◌, not}
+use mathlib.Core.Bool.{Bool, true, false, ◌||◌, ◌&&◌, not, or-true}
 use mathlib.Core.List.{List, [], ◌∷◌, ◌++◌, map}
 use Prim.Native.Nat.{ℕ, zero, suc, ◌+◌, ◌≤◌, ◌<◌}
 use native.Mathlib.Nat.{zero-add, add-zero}
@@ -8,7 +8,7 @@ use native.Mathlib.Omega.{arith}
 use lib.Dec.{eqb, leb, ltb}
 use lib.ListN.{length}
 use borrow.Author.Tests.{eqb-true, eqb-false, leb-true, leb-false, ltb-true, ltb-false, eq-eqb, ne_eqb, lt-ltb}
-use Rattle.base.proofs.Tests.{no_ft, no_tf, and_true, or_all}
+use Rattle.base.proofs.Tests.{no_ft, no_tf, and_true}
 use Rattle.base.specs.Folds.{pick}
 use Rattle.load_text.specs.Bytes.{is_white}
 use Rattle.std.specs.Prelude.{Result, Ok, Err}
@@ -186,7 +186,7 @@ has_space (b ∷ bs) = eqb b 32 || has_space bs
 several_joined : (ks : List Mark) → 1 < closes ks → has_space (joined ks) ≡ true
 unfolding closes joined has_space
 several_joined [] h = absurd (omega arith)
-several_joined (kept b ∷ ks) h = ap (λ (t : Bool). eqb b 32 || t) (several_joined ks h) ∙ or_all (eqb b 32)
+several_joined (kept b ∷ ks) h = ap (λ (t : Bool). eqb b 32 || t) (several_joined ks h) ∙ or-true (eqb b 32)
 several_joined (close ∷ []) h = absurd (omega arith)
 several_joined (close ∷ k ∷ ks) h = refl
 
@@ -201,10 +201,10 @@ module _ (w : List ℕ) where
   no_word_none e = rw (eq-eqb (length w) 0 e)
 
   no_word_long : longest_word < length w → no_word w ≡ true
-  no_word_long h = rw (lt-ltb longest_word (length w) h, or_all (eqb (length w) 0))
+  no_word_long h = rw (lt-ltb longest_word (length w) h, or-true (eqb (length w) 0))
 
   no_word_space : has_space w ≡ true → no_word w ≡ true
-  no_word_space e = rw e (or_all (eqb (length w) 0 || ltb longest_word (length w)))
+  no_word_space e = rw e (or-true (eqb (length w) 0 || ltb longest_word (length w)))
 
 module _ (v : List ℕ) {z : Sizes} (e : scan_of v ≡ Ok z) where
   all_closed : closed_from false (marks_from between v) ≡ true

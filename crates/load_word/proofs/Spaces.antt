@@ -1,13 +1,13 @@
 -- No rule of a word takes a space: a value of several tokens, which has one between them, is outside every rule.
 use mathlib.Core.Path.{◌≡◌, refl, ap, sym, ◌∙◌}
-use mathlib.Core.Bool.{Bool, true, false, ◌&&◌, not}
+use mathlib.Core.Bool.{Bool, true, false, ◌&&◌, not, and-false}
 use mathlib.Core.List.{List, [], ◌∷◌, ◌++◌}
 use Prim.Native.Nat.{ℕ, ◌+◌}
 use lib.Dec.{eqb, leb, ltb}
 use native.Mathlib.Nat.{add-zero}
 use native.Mathlib.Omega.{arith}
 use lib.ListN.{length}
-use Rattle.base.proofs.Tests.{and_none, and_true, not_true}
+use Rattle.base.proofs.Tests.{and_true, not_true}
 use Rattle.load_text.specs.Bytes.{is_name_byte, longest_name}
 use Rattle.load_text.specs.Strings.{bytes, index_from, same}
 use Rattle.service.specs.declared.Settings.{Settings}
@@ -32,7 +32,7 @@ module _ (ys : List ℕ) where
   differs [] [] u = refl
   differs [] (y ∷ t) u = rw ((not_true (eqb 32 y)).0 ((and_true (not (eqb 32 y)) (unspaced t)).0 u).0)
   differs (x ∷ xs) [] u = refl
-  differs (x ∷ xs) (y ∷ t) u = rw (differs xs t ((and_true (not (eqb 32 y)) (unspaced t)).0 u).1) (and_none (eqb x y))
+  differs (x ∷ xs) (y ∷ t) u = rw (differs xs t ((and_true (not (eqb 32 y)) (unspaced t)).0 u).1) (and-false (eqb x y))
 
   -- it is none of a list of such words
   abbrev all_unspaced : List (List ℕ) → Bool
@@ -59,7 +59,7 @@ module _ (ys : List ℕ) where
   names_none : (xs : List ℕ) → name_bytes (xs ++ (32 ∷ ys)) ≡ false
   unfolding name_bytes
   names_none [] = refl
-  names_none (x ∷ xs) = rw (names_none xs) (and_none (is_name_byte x))
+  names_none (x ∷ xs) = rw (names_none xs) (and-false (is_name_byte x))
 
 last_none : (a b : Bool) → (a && b && false) ≡ false
 last_none true true = refl

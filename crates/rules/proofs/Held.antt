@@ -6,7 +6,8 @@ use mathlib.Core.Bool.{Bool, ◌&&◌, ◌||◌, false, not, true}
 use mathlib.Core.Logic.{◌↔◌, ◌⊎◌, inl, inr}
 use mathlib.Core.Path.{◌≡◌, refl}
 use Rattle.base.proofs.Below.{some_false}
-use Rattle.base.proofs.Tests.{and_false, no_ft, not_both, not_true, refute}
+use Rattle.base.proofs.Tests.{and_false, no_ft, not_both, not_true}
+use Rattle.std.proofs.lemmas.Bool.{false_from_ne_true}
 use Rattle.service.specs.Records.{active, is_ending, is_starting, is_up, record_at}
 use Rattle.service.specs.Settings.{settings_at}
 use Rattle.service.specs.declared.Phase.{Phase}
@@ -42,7 +43,7 @@ pub unblocked : (t : Table) (x : State) (s : ℕ) → (blocked t x s ≡ false) 
 unfolding blocked
 unblocked t x s = (
   λ b e l h a. not_both a ((and_false (hard t e s) _).0 ((some_false (λ i. hard t i s && active (record_at x i).phase) t.count).0 b e l) h),
-  λ f. (some_false (λ i. hard t i s && active (record_at x i).phase) t.count).1 (λ e l. (and_false (hard t e s) _).1 (λ h. refute _ (f e l h))),
+  λ f. (some_false (λ i. hard t i s && active (record_at x i).phase) t.count).1 (λ e l. (and_false (hard t e s) _).1 (λ h. false_from_ne_true _ (f e l h))),
 )
 
 module _ (t : Table) (x : State) (s : ℕ) where

@@ -7,7 +7,8 @@ use mathlib.Core.Path.{◌≡◌}
 use native.Mathlib.Omega.{arith}
 use Rattle.base.specs.Folds.{some}
 use Rattle.base.proofs.Below.{some_false, some_true}
-use Rattle.base.proofs.Tests.{and_false, and_true, either, not_both, or_not, or_true, refute, tests}
+use Rattle.base.proofs.Tests.{and_false, and_true, either, not_both, or_not, or_true, tests}
+use Rattle.std.proofs.lemmas.Bool.{false_from_ne_true}
 use Rattle.service.specs.Limits.{max_services}
 use Rattle.service.specs.Records.{active, is_down, is_none, is_starting, is_up, is_waiting, record_at, with_record}
 use Rattle.service.specs.declared.Record.{Record}
@@ -39,7 +40,7 @@ tidy t x none e d el dl h a =
 
 pub untidy : (t : Table) (x : State) → Tidy t x → Nowhere t x Lose
 untidy t x h s sl =
-    refute
+    false_from_ne_true
     (fits Lose t x s)
     (λ f.
     let m = (lose_fits t x s).0 f in
@@ -130,7 +131,7 @@ module _ (t : Table) (x : State) (s : ℕ) (r : Record) (z : Sized x) (l : s < m
 
   module _ (c : Change) (b : Before t x 5) where
     no_abandon : Nowhere t (with_record x s r) Abandon
-    no_abandon i il = refute _ (λ f. go ((abandon_fits t (with_record x s r) i).0 f) (with_at x s r z l i))
+    no_abandon i il = false_from_ne_true _ (λ f. go ((abandon_fits t (with_record x s r) i).0 f) (with_at x s r z l i))
       where
         go : Abandoning t (with_record x s r) i → With x s r i → ⊥
         go m (same q w) = not_both (rw w at m.waits) c.busy
@@ -140,7 +141,7 @@ module _ (t : Table) (x : State) (s : ℕ) (r : Record) (z : Sized x) (l : s < m
             (b Abandon (lit< tt) i il)
 
     no_settle : Nowhere t (with_record x s r) Settle
-    no_settle i il = refute _ (λ f. go ((settle_fits t (with_record x s r) i).0 f) (with_at x s r z l i))
+    no_settle i il = false_from_ne_true _ (λ f. go ((settle_fits t (with_record x s r) i).0 f) (with_at x s r z l i))
       where
         go : Settling t (with_record x s r) i → With x s r i → ⊥
         go m (same q w) = not_both (c.unclosed (rw w at m.up)) (rw w at m.caused)
@@ -156,14 +157,14 @@ module _ (t : Table) (x : State) (s : ℕ) (r : Record) (z : Sized x) (l : s < m
             (b Settle (lit< tt) i il)
 
     no_wake : Nowhere t (with_record x s r) Wake
-    no_wake i il = refute _ (λ f. go ((wake_fits t (with_record x s r) i).0 f) (with_at x s r z l i))
+    no_wake i il = false_from_ne_true _ (λ f. go ((wake_fits t (with_record x s r) i).0 f) (with_at x s r z l i))
       where
         go : Waking t (with_record x s r) i → With x s r i → ⊥
         go m (same q w) = not_both (rw w at m.down) c.woken
         go m (other q w) = not_both (wake_back i w m c.busy) (b Wake (lit< tt) i il)
 
     no_release : Nowhere t (with_record x s r) Release
-    no_release i il = refute _ (λ f. go ((release_fits t (with_record x s r) i).0 f) (with_at x s r z l i))
+    no_release i il = false_from_ne_true _ (λ f. go ((release_fits t (with_record x s r) i).0 f) (with_at x s r z l i))
       where
         less : Idle t (with_record x s r) i → Idle t x i
         less = idle_back (λ d. absurd (not_both d c.woken)) c.wants i

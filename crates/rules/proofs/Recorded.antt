@@ -7,7 +7,8 @@ use mathlib.Core.Bool.{Bool, false, not, true}
 use mathlib.Core.Logic.{◌≢◌, ◌⊎◌, inl, inr}
 use mathlib.Core.Path.{◌∙◌, ◌≡◌, refl, subst, sym}
 use Rattle.base.specs.Folds.{pick}
-use Rattle.base.proofs.Tests.{not_both, not_true, refute}
+use Rattle.base.proofs.Tests.{not_both, not_true}
+use Rattle.std.proofs.lemmas.Bool.{false_from_ne_true}
 use Rattle.service.specs.Records.{is_starting, is_up, record_at}
 use Rattle.service.specs.Settings.{form_of, settings_at, is_passing}
 use Rattle.service.specs.declared.Action.TheVariants.{Launch, Moved, Quiet, Signal, StopCommand}
@@ -145,7 +146,7 @@ module _ (t : Table) (x : State) (s : ℕ) (v : Set) (same : v s ≡ (record_at 
       → nothing_to_end (form_of (settings_at t s)) (settings_at t s).has_stop (record_at x s).live ≡ false
   busy l f b =
       let m = (end_fits t x s).0 f in
-      refute _
+      false_from_ne_true _
       (λ i. not_both ((settle_fits t x s).1 record { up = m.up; caused = m.caused; unblocked = m.unblocked; nothing = i }) (b Settle (lit< tt) s l))
 
   pub rule_lives : (k : Rule) (b : Bool) → shaped_at t x s ≡ true → Fires t x k s → recorded_by (handed (hands k t x s) b) v s ≡ (leaves k t x s).live

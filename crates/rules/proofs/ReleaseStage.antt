@@ -4,7 +4,8 @@ use mathlib.Core.Bool.{false, true}
 use mathlib.Core.Logic.{◌≢◌, inr}
 use mathlib.Core.Path.{◌≡◌}
 use native.Mathlib.Nat.{le_trans}
-use Rattle.base.proofs.Tests.{and_true, either, no_ft, not_both, refute}
+use Rattle.base.proofs.Tests.{and_true, either, no_ft, not_both}
+use Rattle.std.proofs.lemmas.Bool.{false_from_ne_true}
 use Rattle.service.specs.Limits.{max_services}
 use Rattle.service.specs.Records.{active, is_down, is_none, is_up, is_waiting, record_at, with_record}
 use Rattle.service.specs.declared.Record.{Record}
@@ -58,7 +59,7 @@ module _ (t : Table) (x : State) (s : ℕ) (r : Record) (i : ReleaseStage t x) (
         (λ u. inr (λ e el h a. no_ft (rw (is_down_lem (record_at x e).phase (f.lone.alone e el (hard_depends t e s h))) at a)))
 
     no_abandon' : Nowhere t (with_record x s r) Abandon
-    no_abandon' j jl = refute _ (λ y. go ((abandon_fits t (with_record x s r) j).0 y) (with_at x s r z l j))
+    no_abandon' j jl = false_from_ne_true _ (λ y. go ((abandon_fits t (with_record x s r) j).0 y) (with_at x s r z l j))
       where
         go : Abandoning t (with_record x s r) j → With x s r j → ⊥
         go m (same q w) = not_both (rw w at m.waits) f.busy
@@ -70,7 +71,7 @@ module _ (t : Table) (x : State) (s : ℕ) (r : Record) (i : ReleaseStage t x) (
             (i.no_abandon j jl)
 
     no_wake' : Nowhere t (with_record x s r) Wake
-    no_wake' j jl = refute _ (λ y. go ((wake_fits t (with_record x s r) j).0 y) (with_at x s r z l j))
+    no_wake' j jl = false_from_ne_true _ (λ y. go ((wake_fits t (with_record x s r) j).0 y) (with_at x s r z l j))
       where
         go : Waking t (with_record x s r) j → With x s r j → ⊥
         go m (same q w) =

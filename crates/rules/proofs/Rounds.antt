@@ -13,7 +13,8 @@ use Rattle.base.specs.Links.{Path, link}
 use Rattle.base.proofs.Below.{some_false, some_true}
 use Rattle.base.proofs.Links.{join}
 use Rattle.base.proofs.Sums.{sum_bound, sum_le, sum_lt, sum_term}
-use Rattle.base.proofs.Tests.{either, no_ft, not_both, not_false, not_true, or_not, refute, tests}
+use Rattle.base.proofs.Tests.{either, no_ft, not_both, not_false, not_true, or_not, tests}
+use Rattle.std.proofs.lemmas.Bool.{false_from_ne_true}
 use Rattle.service.specs.Records.{active, is_down, is_ending, is_starting, is_up, is_user, record_at}
 use Rattle.service.specs.Settings.{form_of, settings_at}
 use Rattle.std.specs.Prelude.{Some}
@@ -335,13 +336,13 @@ module _ (t : Table) (tf : table_formed t ≡ true) (ts : TableSound t) (nz : No
           let user : is_user r.cause ≡ true = halting_user r.phase r.aside r.wanted r.cause halts on' in
           left_ending r.phase on'
           ((not_true _).1
-          (refute (is_up r.phase)
+          (false_from_ne_true (is_up r.phase)
           (λ b.
           not_both
           ((end_fits t over.state s).1 record { up = b; caused = (not_true _).0 (user_caused r.cause user); unblocked = (unblocked t over.state s).1 u })
           (quiet_over.none End s l))))
           ((not_true _).1
-          (refute (is_starting r.phase)
+          (false_from_ne_true (is_starting r.phase)
           (λ e.
           let k = (on_to_over.since.goes s l).starting e in
           let m = (at_still.since.goes s l).starting k.0 in

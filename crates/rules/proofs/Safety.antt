@@ -6,7 +6,8 @@ use mathlib.Core.List.{List}
 use mathlib.Core.Logic.{◌⊎◌}
 use mathlib.Core.Path.{◌∙◌, ◌≡◌}
 use Rattle.base.specs.Links.{Path, link, on}
-use Rattle.base.proofs.Tests.{either, no_ft, not_both, not_true, refute}
+use Rattle.base.proofs.Tests.{either, no_ft, not_both, not_true}
+use Rattle.std.proofs.lemmas.Bool.{false_from_ne_true}
 use Rattle.service.specs.Records.{active, fresh_state, is_up, record_at}
 use Rattle.service.specs.Settings.{form_of, settings_at}
 use Rattle.service.specs.declared.State.{State}
@@ -55,7 +56,7 @@ module _ (t : Table) (ts : TableSound t) where
         g.same e el
         ∙ (not_true (record_at x e).live).0
         (inactive_dead (form_of (settings_at t e)) (record_at x e).phase (record_at x e).live (record_at x e).cause (g.sound.shapes e el)
-        ((not_true (active (record_at x e).phase)).1 (refute (active (record_at x e).phase) h)))
+        ((not_true (active (record_at x e).phase)).1 (false_from_ne_true (active (record_at x e).phase) h)))
 
     clear_by : (k : Mark) → ((s : ℕ) → Acts k s → (is_up (record_at x s).phase ≡ false) ⊎ Unblocked t x s) → ClearBy t v k
     clear_by (handed a b) h = λ s e q el p.
