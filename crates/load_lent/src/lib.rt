@@ -22,6 +22,7 @@ pub struct Refused {
 
 impl Refused {
     // A refusal that has no line and no column.
+    // A number: Refused has paper 01's numbers.
     pub fn bare(number: u8, service: usize) -> Refused
         ensures { result ≡ bare number service }
     {
@@ -91,6 +92,7 @@ impl<'a> Lent<'a, '_> {
         ensures { result ≡ positioned self.entry.bytes.now self.entry.ends.now }
     {
         let mut last = 0;
+        // A loop: is_sorted gives no last position, which the lent bytes have to end with.
         for &end in self.ends {
             let falls = end < last;
             if falls {
@@ -146,6 +148,7 @@ impl<'a> Lent<'a, '_> {
         for j in 0..self.count() {
             let name = self.name(j);
             if !is_name(name) {
+                // No enum: Refused has paper 01's numbers.
                 return Err(Refused::bare(3, j));
             }
             if self.find_among(j, name).is_some() {
@@ -176,6 +179,7 @@ impl<'a> Lent<'a, '_> {
 }
 
 // The name of service j of a set; past the last service none.
+// Two parameters: a program has the bytes and the positions apart, as it lent them to the load.
 pub fn name_at<'a>(lent: &'a [u8], ends: &[usize], j: usize) -> &'a [u8]
     ensures { result.now ≡ name_at lent.now ends.now j }
 {

@@ -66,6 +66,7 @@ impl<'a, 'e> Set<'a, 'e> {
         ensures { MatchResult result (λ s. s.lent ≡ lent.entry) (λ r. (r ≡ bare 1 0) × (max_services < services_of lent.entry)) }
     {
         if MAX_SERVICES < lent.count() {
+            // No enum: Refused has paper 01's numbers.
             return Err(Refused::bare(1, 0));
         }
         Ok(Set { lent })
@@ -116,6 +117,7 @@ fn settings_of(d: &Description, l: Links) -> Settings
 }
 
 // The settings of each service, put into the places given.
+// Two arrays: a description has the offsets of its text and is let go after the load, and the table keeps settings alone.
 #[tactic(auto, using(crate::proofs::Laws::making))]
 fn make(
     set: Set,
@@ -145,6 +147,7 @@ pub fn make_services(
 }
 
 // The lowest number below n that reaches itself by the rows.
+// A count beside an array: reach_of takes them so, and the core allocates nothing (docs/HOST.md, "Reentrancy").
 fn first_own(n: usize, rows: &[u64; MAX_SERVICES]) -> Option<usize>
     requires { n ≤ max_services }
     ensures { result ≡ found n (first (λ s. has_bit (reach (rows_as rows.now) n s) s) n) }
@@ -153,6 +156,7 @@ fn first_own(n: usize, rows: &[u64; MAX_SERVICES]) -> Option<usize>
 }
 
 // The lowest service on a cycle. Only where there is a cycle is each service's reach found.
+// A count beside an array: a table is such a pair, and the core allocates nothing (docs/HOST.md, "Reentrancy").
 pub fn lowest_cyclic(services: [Settings; MAX_SERVICES], n: usize) -> Option<usize>
     ensures { result ≡ pick (leb n max_services) (found n (lowest_cyclic services n)) None }
 {

@@ -52,6 +52,7 @@ impl Loaded {
 }
 
 // The texts of the services read in turn, put into the places given.
+// Two parameters: the set is the host's and lent, and what is read of it is the load's own.
 #[tactic(auto, using(crate::proofs::Laws::reading))]
 fn read_into(
     set: Set,
@@ -74,6 +75,7 @@ fn read_texts(set: Set) -> Result<[Description; MAX_SERVICES], Refused>
 }
 
 // Finds the place of what is kept of each service, one after the other from the start of the buffer on, put into the places given.
+// Two arrays: the descriptions are let go after the load, and the places are given to the host.
 #[tactic(auto, using(crate::proofs::Services::placing_end))]
 fn place_all(
     set: Set,
@@ -93,6 +95,7 @@ fn place_all(
 }
 
 // Writes what is kept of each service to its place.
+// Two arrays: as for place_all.
 #[tactic(auto, using(crate::proofs::Services::writing_none, crate::proofs::Services::writing_more))]
 fn write_all(
     set: Set,
@@ -109,6 +112,7 @@ fn write_all(
 }
 
 // The last of the load: 25, or the tokens written and the table given.
+// Two arrays: the descriptions are let go after the load, and the table keeps settings alone.
 #[tactic(auto, using(crate::proofs::Outcomes::storing))]
 fn store(
     set: Set,
@@ -122,6 +126,7 @@ fn store(
     let placed = place_all(set, ds, [Commands::NONE; MAX_SERVICES]);
     let room = placed.room;
     if tokens.len() < room {
+        // No enum: Refused has paper 01's numbers.
         return Err(Refused::bare(25, 0));
     }
     write_all(set, ds, &placed.commands, tokens);
@@ -158,6 +163,7 @@ fn try_load(lent: Lent, tokens: &mut [u8]) -> Result<Loaded, Refused>
 
 // Loads a set: lent has each service's name and text in turn, ends the position where each ends. The tokens of the commands go to the
 // lent buffer; a refusal leaves it as it was.
+// Two parameters: so docs/HOST.md has a host call it.
 pub fn load(lent: &[u8], ends: &[usize], tokens: &mut [u8]) -> Loaded
     ensures { ◌≡◌ {A = Outcome} (record { loaded = result; buffer = tokens.new }) (load lent.now ends.now tokens.old) }
 {

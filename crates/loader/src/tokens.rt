@@ -9,6 +9,7 @@ use load_description::{Description, value_at};
 use load_value::{scan_value, write_value};
 
 // Where the tokens of a command begin in the lent buffer, and how many they are, 0 of no command: no Option beside the count.
+// A place and a count: a table of offsets into the host's buffer, which a slice of it would keep lent.
 #[derive(Clone, Copy)]
 pub struct Tokens {
     pub at: usize,
