@@ -39,10 +39,9 @@ pub(crate) fn service_at(place: usize, n: usize) -> usize
 
 // The service that is `back` places before this one, as a set; the empty set where there is none.
 fn dependency(place: usize, back: usize, n: usize) -> u64 {
-    match place.checked_sub(back) {
-        Some(before) => single_of(service_at(before, n), true),
-        None => 0,
-    }
+    place
+        .checked_sub(back)
+        .map_or(0, |before| single_of(service_at(before, n), true))
 }
 
 fn is_internal(i: usize) -> bool {

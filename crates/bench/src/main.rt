@@ -33,6 +33,7 @@ fn number_argument(rt: &impl Env, i: usize) -> usize {
 }
 
 // The checksum of the loop of a name, which is filled up with spaces; 0 where none has it.
+// A match: it is made once, before the turns, and what differs within a loop is a closure.
 fn sum_of(rt: &(impl Input + Alloc), name: &[u8], turns: Loop) -> io::Result<u64> {
     Ok(match name {
         b"next-quiet  " => turns.requests(turns.n),

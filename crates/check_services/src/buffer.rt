@@ -28,6 +28,7 @@ const ROOM: usize = KEPT_NAMES * KEPT_NAME + MAX_TEXTS + KEPT_TEXT;
 pub(crate) struct Unreadable(pub(crate) usize);
 
 // The first `used` bytes are lent, and where the name and the text of each of the first `services` services end.
+// Arrays with counts: paper 01's text buffer is one repeated array, and there is always memory for what the limits allow.
 #[derive(Drop)]
 pub(crate) struct Buffer {
     bytes: [u8; ROOM],
@@ -41,7 +42,6 @@ pub(crate) struct Buffer {
 }
 
 impl Buffer {
-    // Fixed buffers, in place of vectors: so there is always memory for what the limits allow.
     pub(crate) fn empty() -> Buffer {
         Buffer {
             bytes: [0; ROOM],
@@ -62,7 +62,7 @@ impl Buffer {
     // Adds what is kept of a file, as far as it fits.
     fn read(&mut self, file: &mut impl Read) -> io::Result<()> {
         let end = self.used + KEPT_TEXT.min(ROOM - self.used);
-        // A while: each turn goes as far on as a read gives.
+        // A while: a read says how far it came, and no index counts up.
         while self.used < end {
             let n = file.read(&mut self.bytes[self.used..end])?;
             if n == 0 {

@@ -54,34 +54,27 @@ impl fmt::Display for Failed {
     }
 }
 
-// What the names alone give: 1, 3 or 4 where one is due. Any later number says only that the texts are missing.
-fn check_names(
-    files: &impl Files,
-    names: &[u8],
-    buffer: &mut Buffer,
-    tokens: &mut [u8],
-) -> Result<(), Failed> {
-    buffer.fill(files, names, 0)?;
-    match buffer.load(tokens).answer {
-        Err(refused) if refused.number < 5 => Err(Failed::Refused(refused)),
-        _ => Ok(()),
-    }
-}
-
-// Loads the names with their texts. No file is opened where a refusal of the names is due.
+// Loads the names with their texts. No file is opened where the names alone give 1, 3 or 4; any later number says only that the texts
+// are missing.
 fn load(
     files: &impl Files,
     names: &[u8],
     buffer: &mut Buffer,
     tokens: &mut [u8],
 ) -> Result<Table, Failed> {
-    check_names(files, names, buffer, tokens)?;
+    buffer.fill(files, names, 0)?;
+    if let Err(refused) = buffer.load(tokens).answer
+        && refused.number < 5
+    {
+        return Err(Failed::Refused(refused));
+    }
     buffer.fill(files, names, ENOUGH_TEXT)?;
     let loaded = buffer.load(tokens);
     loaded.answer?;
     Ok(loaded.table)
 }
 
+// A match: Kind and Display are of other crates, so that no impl may stand here, and the library of services prints nothing.
 fn kind_word(kind: Kind) -> &'static str {
     match kind {
         Kind::Process => "process",

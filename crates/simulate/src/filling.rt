@@ -41,7 +41,8 @@ fn put_mark(out: &mut impl Write, texts: &[u8], mark: u8, number: u64) -> io::Re
 }
 
 // Puts a text with a number at each mark.
-fn put_marked(out: &mut impl Write, texts: &[u8], text: Text, numbers: &[u64]) -> io::Result<()> {
+pub(crate) fn put_text(out: &mut impl Write, text: Text, numbers: &[u64]) -> io::Result<()> {
+    let texts = &TEXTS;
     let mut numbers = numbers.iter();
     for &byte in piece(texts, b'\n', text.place()) {
         if is_mark(byte) {
@@ -52,12 +53,6 @@ fn put_marked(out: &mut impl Write, texts: &[u8], text: Text, numbers: &[u64]) -
         }
     }
     Ok(())
-}
-
-// The same of the format's texts. They are lent here and only here: a constant is spelled out at each point of a function that
-// names it, which makes such a function slow to check.
-pub(crate) fn put_text(out: &mut impl Write, text: Text, numbers: &[u64]) -> io::Result<()> {
-    put_marked(out, &TEXTS, text, numbers)
 }
 
 // The same as a line.

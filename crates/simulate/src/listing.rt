@@ -26,22 +26,6 @@ pub(crate) fn put_services(
     Ok(())
 }
 
-// The settings of the first `count` services, with how many tokens the commands of each have.
-fn put_settings(
-    out: &mut impl Write,
-    table: &Numbers,
-    counts: &Counts,
-    count: u64,
-) -> io::Result<()> {
-    let services = table[FRONT..].chunks(EACH).zip(counts.chunks(2));
-    for (s, (settings, counts)) in services.take(count as usize).enumerate() {
-        put_text(out, Text::ServiceHead, &[s as u64])?;
-        put_text(out, Text::Settings, settings)?;
-        put_line(out, Text::Commands, counts)?;
-    }
-    Ok(())
-}
-
 fn put_tokens(out: &mut impl Write, tokens: &[u8]) -> io::Result<()> {
     if tokens.is_empty() {
         return put_line(out, Text::NoTokens, &[]);
@@ -75,7 +59,12 @@ pub(crate) fn put_table(
     count: u64,
     tokens: &[u8],
 ) -> io::Result<()> {
-    put_settings(out, table, counts, count)?;
+    let services = table[FRONT..].chunks(EACH).zip(counts.chunks(2));
+    for (s, (settings, counts)) in services.take(count as usize).enumerate() {
+        put_text(out, Text::ServiceHead, &[s as u64])?;
+        put_text(out, Text::Settings, settings)?;
+        put_line(out, Text::Commands, counts)?;
+    }
     let all = counts.iter().fold(0u64, |sum, n| sum.saturating_add(*n));
     put_tokens(out, first_tokens(tokens, all))
 }

@@ -7,8 +7,8 @@ use std::io::{Stdout, Write};
 // How many bytes are collected.
 const ROOM: usize = 65536;
 
-// Where the output goes, and what is collected of it: the first `used` bytes. A buffer of its own, in place of a BufWriter, since must-fail has
-// an edit of the buffer's end.
+// Where the output goes, and what is collected of it: the first `used` bytes.
+// An array with a count, and no BufWriter: must-fail/byte_past_the_buffer is an edit of where it ends.
 #[derive(Drop)]
 pub(crate) struct Output {
     to: Stdout,

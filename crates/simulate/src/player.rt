@@ -103,6 +103,7 @@ impl Player {
         };
         let n = command.first;
         let s = n as usize;
+        // A match: each verb has a call of its own, and is met once for each line.
         match command.verb {
             Verb::Nothing => Ok(()),
             Verb::Begin | Verb::AddLine | Verb::AddPiece => {
