@@ -28,7 +28,7 @@ const ROOM: usize = KEPT_NAMES * KEPT_NAME + MAX_TEXTS + KEPT_TEXT;
 pub(crate) struct Unreadable(pub(crate) usize);
 
 // The first `used` bytes are lent, and where the name and the text of each of the first `services` services end.
-// Arrays with counts: paper 01's text buffer is one repeated array, and there is always memory for what the limits allow.
+// Two arrays with counts: paper 01's text buffer is one repeated array, and there is always memory for what the limits allow.
 #[derive(Drop)]
 pub(crate) struct Buffer {
     bytes: [u8; ROOM],

@@ -64,7 +64,7 @@ fn load(
 ) -> Result<Table, Failed> {
     buffer.fill(files, names, 0)?;
     if let Err(refused) = buffer.load(tokens).answer
-        && refused.number < 5
+        && refused.number < 5 // A number: Refused has paper 01's.
     {
         return Err(Failed::Refused(refused));
     }

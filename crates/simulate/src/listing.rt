@@ -11,6 +11,7 @@ use std::io::Write;
 const TIMED: usize = 5;
 
 // The loaded services, each with its name, of those that were lent, and its type.
+// Two parameters: the table's own count may have been set, by a line, to another number than was loaded.
 pub(crate) fn put_services(
     out: &mut impl Write,
     table: &Numbers,
@@ -52,6 +53,7 @@ fn first_tokens(tokens: &[u8], count: u64) -> &[u8] {
 }
 
 // The loaded services with their settings, as many as were loaded, whatever the table's count was set to; and the tokens.
+// A count beside an array: there are counts of every place, and services of the first ones.
 pub(crate) fn put_table(
     out: &mut impl Write,
     table: &Numbers,

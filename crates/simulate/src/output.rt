@@ -8,7 +8,7 @@ use std::io::{Stdout, Write};
 const ROOM: usize = 65536;
 
 // Where the output goes, and what is collected of it: the first `used` bytes.
-// An array with a count, and no BufWriter: must-fail/byte_past_the_buffer is an edit of where it ends.
+// An array with a count: no BufWriter, since must-fail/byte_past_the_buffer is an edit of where it ends.
 #[derive(Drop)]
 pub(crate) struct Output {
     to: Stdout,
