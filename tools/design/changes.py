@@ -554,6 +554,8 @@ SERVED = {
 }
 
 LEMMAS_NOW = {(crate, name): now for crate, of, now in (
+    ("base", "and_none and_all or_none or_all", "the library's `and-false`, `and-true`, `or-false`, `or-true`"),
+    ("base", "refute", "the library's `false_from_ne_true`"),
     ("links", "rounds_answer", "the contract of `has_cycle`, which says the limit of rows itself"),
     ("load_description", "word_at_fits", "`word_fits`, and the invariant of `Word`"),
     ("load_description", "links_as", "`==` of `Link`, derived"),
