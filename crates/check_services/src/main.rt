@@ -16,6 +16,9 @@ const INPUT: usize = 65536;
 
 const TOKENS: usize = 65536;
 
+// A number: paper 01's, as a Refused holds it. From this one on it takes the texts to tell; the names alone give 1, 3 and 4.
+const OF_TEXTS: u8 = 5;
+
 // Why nothing was loaded.
 #[derive(Clone, Copy)]
 enum Failed {
@@ -54,7 +57,7 @@ impl fmt::Display for Failed {
     }
 }
 
-// Loads the names with their texts. No file is opened where the names alone give 1, 3 or 4; any later number says only that the texts
+// Loads the names with their texts. No file is opened where the names alone are refused; a number of texts says then only that these
 // are missing.
 fn load(
     files: &impl Files,
@@ -64,7 +67,7 @@ fn load(
 ) -> Result<Table, Failed> {
     buffer.fill(files, names, 0)?;
     if let Err(refused) = buffer.load(tokens).answer
-        && refused.number < 5 // A number: Refused has paper 01's.
+        && refused.number < OF_TEXTS // A number: Refused has paper 01's.
     {
         return Err(Failed::Refused(refused));
     }

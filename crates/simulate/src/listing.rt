@@ -4,22 +4,22 @@ use load_lent::Lent;
 use plain::Counts;
 use plain_encoding::{EACH, FRONT, Numbers};
 use scenario_replies::Text;
+use service::MAX_SERVICES;
 use std::io;
 use std::io::Write;
 
 // The place among a record's numbers of whether there is a deadline.
 const TIMED: usize = 5;
 
+// The numbers of the first `count` places.
+pub(crate) fn first_places(numbers: &Numbers, count: u64) -> &[u64] {
+    let count = (count as usize).min(MAX_SERVICES);
+    &numbers[FRONT..FRONT + EACH * count]
+}
+
 // The loaded services, each with its name, of those that were lent, and its type.
-// Two parameters: the table's own count may have been set, by a line, to another number than was loaded.
-pub(crate) fn put_services(
-    out: &mut impl Write,
-    table: &Numbers,
-    count: u64,
-    lent: Lent,
-) -> io::Result<()> {
-    let services = table[FRONT..].chunks(EACH);
-    for (s, settings) in services.take(count as usize).enumerate() {
+pub(crate) fn put_services(out: &mut impl Write, services: &[u64], lent: Lent) -> io::Result<()> {
+    for (s, settings) in services.chunks(EACH).enumerate() {
         put_text(out, Text::ServiceHead, &[s as u64])?;
         out.write_all(lent.name(s))?;
         put_line(out, Text::ServiceTail, settings)?;
@@ -52,17 +52,14 @@ fn first_tokens(tokens: &[u8], count: u64) -> &[u8] {
     tokens
 }
 
-// The loaded services with their settings, as many as were loaded, whatever the table's count was set to; and the tokens.
-// A count beside an array: there are counts of every place, and services of the first ones.
+// Services with their settings and with how many tokens the commands of each have; and the tokens.
 pub(crate) fn put_table(
     out: &mut impl Write,
-    table: &Numbers,
+    services: &[u64],
     counts: &Counts,
-    count: u64,
     tokens: &[u8],
 ) -> io::Result<()> {
-    let services = table[FRONT..].chunks(EACH).zip(counts.chunks(2));
-    for (s, (settings, counts)) in services.take(count as usize).enumerate() {
+    for (s, (settings, counts)) in services.chunks(EACH).zip(counts.chunks(2)).enumerate() {
         put_text(out, Text::ServiceHead, &[s as u64])?;
         put_text(out, Text::Settings, settings)?;
         put_line(out, Text::Commands, counts)?;
@@ -71,11 +68,10 @@ pub(crate) fn put_table(
     put_tokens(out, first_tokens(tokens, all))
 }
 
-// The clock, and the record of each of the first `count` services: with a deadline's time, or without one.
-pub(crate) fn put_state(out: &mut impl Write, state: &Numbers, count: u64) -> io::Result<()> {
-    put_line(out, Text::ClockLine, state)?;
-    let records = state[FRONT..].chunks(EACH);
-    for (s, record) in records.take(count as usize).enumerate() {
+// The clock, and records: with a deadline's time, or without one.
+pub(crate) fn put_state(out: &mut impl Write, clock: u64, records: &[u64]) -> io::Result<()> {
+    put_line(out, Text::ClockLine, &[clock])?;
+    for (s, record) in records.chunks(EACH).enumerate() {
         let text = match record.get(TIMED) {
             Some(0) | None => Text::Record,
             Some(_) => Text::RecordTimed,

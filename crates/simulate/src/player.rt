@@ -1,5 +1,5 @@
 // A scenario that is played, line by line.
-use crate::listing::{put_services, put_state, put_table};
+use crate::listing::{first_places, put_services, put_state, put_table};
 use crate::writing::{put_reply, put_run};
 use load_lent::Lent;
 use load_text::part;
@@ -62,7 +62,8 @@ impl Player {
             &mut self.counts,
         );
         self.loaded = loaded.ok();
-        put_services(out, &self.table, self.loaded.unwrap_or(0), lent)?;
+        let services = first_places(&self.table, self.loaded.unwrap_or(0));
+        put_services(out, services, lent)?;
         put_reply(out, load_reply(loaded))
     }
 
@@ -112,10 +113,14 @@ impl Player {
             }
             Verb::Load | Verb::LoadNone | Verb::LoadAt => self.load(out, command, line),
             Verb::Show => {
-                let count = self.loaded.unwrap_or(0);
-                put_table(out, &self.table, &self.counts, count, &self.tokens)
+                // As many services as were loaded, whatever the table's count was set to.
+                let services = first_places(&self.table, self.loaded.unwrap_or(0));
+                put_table(out, services, &self.counts, &self.tokens)
             }
-            Verb::State => put_state(out, &self.state, self.table[0]),
+            Verb::State => {
+                let records = first_places(&self.state, self.table[0]);
+                put_state(out, self.state[0], records)
+            }
             Verb::Next => {
                 let next = next_action(&self.table, &mut self.state);
                 put_reply(out, next_reply(next))
