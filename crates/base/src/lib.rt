@@ -62,7 +62,7 @@ pub fn lowest_outside(m: u64) -> usize
 }
 
 // The lowest number below n in the set, or n where there is none: n joins the set, if it has a place in it.
-// A number: `first` of the definitions has the bound itself for none, and one count of zeros gives it with no test of its own.
+// A number: `first` of the definitions has the bound itself for none, and the choice of a rule is defined by it (choice_from).
 pub fn lowest(m: u64, n: usize) -> usize
     ensures { result ≡ first (has_bit m) n }
 {

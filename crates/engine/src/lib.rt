@@ -50,7 +50,7 @@ fn write_action(k: usize, a: Action, services: &mut [u64], actions: &mut [u64])
 
 // Hands out actions until all is quiet, but no more than the limit, from a state that has passed list 24. Both passes of a step stand
 // here, and the step changes one record in place: a function of its own for a step or a pass would copy table and state each time.
-// Two parameters: the host keeps the table, and lends with it the state of the call before (docs/HOST.md, demand 3).
+// Two parameters: the host keeps the table, and lends with it the state of the call before (docs/HOST.md, "Calls"; the list of calls of demand 3).
 #[tactic(auto, using(crate::proofs::Running::turn_inside))]
 fn advance(t: Table, x: State, limit: usize, services: &mut [u64], actions: &mut [u64]) -> Progress
     requires { (formed t x ≡ true) × (t.count ≤ max_services) × Room limit services.old actions.old }

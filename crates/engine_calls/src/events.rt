@@ -28,7 +28,7 @@ fn start_place(s: usize, m: u64, i: usize, r: Record) -> Record
 }
 
 // Start s. The loop stands here and changes the state that it got: a function of its own would take and give a copy.
-// Two parameters: the host keeps the table, and lends with it the state of the call before (docs/HOST.md, demand 3).
+// Two parameters: the host keeps the table, and lends with it the state of the call before (docs/HOST.md, "Calls"; the list of calls of demand 3).
 pub fn start(t: Table, mut x: State, s: usize) -> Answered<()>
     ensures { changed_outcome result ≡ outcome t x (startCall s) }
 {

@@ -18,7 +18,7 @@ fn sooner_of(a: Option<u64>, b: Option<u64>) -> Option<u64>
     ensures { result ≡ sooner a b }
 {
     match (a, b) {
-        (Some(d), Some(e)) => { if d <= e { a } else { b } }
+        (Some(d), Some(e)) => Some(d.min(e)),
         (None, _) => b,
         (_, None) => a,
     }

@@ -106,6 +106,7 @@ pub fn is_formed(t: Table, x: State) -> bool
         rows[i] = t.services[i].all_links();
     }
     let mut ok = true;
+    // A loop: it has no branch, where all would leave it and lend table and state to a closure.
     for s in 0..t.count {
         ok &= place_formed(t.count, x.clock, t.services[s], x.records[s]);
     }

@@ -92,7 +92,7 @@ impl<'a> Lent<'a, '_> {
         ensures { result ≡ positioned self.entry.bytes.now self.entry.ends.now }
     {
         let mut last = 0;
-        // A loop: is_sorted gives no last position, which the lent bytes have to end with.
+        // A loop: it carries the last position, with which the lent bytes have to end; is_sorted and last would say it in two steps.
         for &end in self.ends {
             let falls = end < last;
             if falls {

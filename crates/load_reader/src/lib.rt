@@ -105,6 +105,7 @@ fn read_lines(text: &[u8]) -> Result<Description, Fault>
     while from < text.len() {
         let end = line_end(text, from);
         let answer = read_line(text, &d, from, part(text, from, end));
+        // Paper 01's form: the line reader's answer is taken apart by let .. else.
         let Ok(effect) = answer else {
             return answer.and(Ok(d));
         };
@@ -115,7 +116,7 @@ fn read_lines(text: &[u8]) -> Result<Description, Fault>
     Ok(d)
 }
 
-// The settings of a description, or its first fault.
+// The description that a text is, or its first fault.
 #[tactic(auto, unfolding(load_description::specs::Texts::text_read))]
 pub fn read_text(text: &[u8]) -> Result<Description, Fault>
     ensures { result ≡ text_read text.now }

@@ -12,7 +12,7 @@ use load_text::{LONGEST_NAME, is_digit, is_name_byte, same_bytes};
 use service::{Kind, LONGEST_TIME, MAX_COUNT, Settings, Signal};
 
 // A property by what its value is: the type; a word that the settings hold; a command; the name of a service that is depended on.
-// An enum: property_of has the unknown one among its five cases, and an Option of the other four would be matched in two steps.
+// An enum: property_of has the unknown one among its five cases, and tokens_read and property_read answer for it.
 #[derive(Clone, Copy)]
 pub enum Property {
     Kind,
@@ -51,7 +51,7 @@ pub enum Link {
 }
 
 // A decimal number as it is read: its digits before and after the point, their value without the point, a point.
-// A flag: right after the point there is no digit yet, so the digits after it do not tell whether it stood.
+// A flag: so the definitions of a decimal number have it (blank, Sane, decimal_from).
 #[derive(Clone, Copy)]
 pub struct Decimal {
     pub whole: usize,

@@ -5,15 +5,20 @@ use Rattle.base.specs.Folds.{fold, pick}
 use Rattle.service.specs.Limits.{max_services}
 use Rattle.service.specs.Records.{fresh_state}
 use Rattle.load_lent.specs.declared.Refused.{Refused}
+use Rattle.plain.specs.declared.forms.LoadRefused.{LoadRefused}
 use Rattle.loader.specs.Tokens.{no_tokens}
 use Rattle.loader.specs.declared.tokens.Commands.{Commands}
 use Rattle.loader.specs.declared.Loaded.{Loaded}
 use Rattle.plain_encoding.specs.Numbers.{state_numbers, table_numbers}
 
+-- the numbers of a refusal
+abbrev pub numbers_of : Refused → LoadRefused
+numbers_of r = record { number = r.number; service = r.service; line = r.line; column = r.column }
+
 -- the answer to a load of n services: how many there are, or what refuses it
-abbrev pub load_of : Result (Unit {0}) Refused → ℕ → Result ℕ Refused
+abbrev pub load_of : Result (Unit {0}) Refused → ℕ → Result ℕ LoadRefused
 load_of (Ok u) n = Ok n
-load_of (Err r) n = Err r
+load_of (Err r) n = Err (numbers_of r)
 
 -- how many tokens the command and the stop-command of service s have, put into the counts
 abbrev pub counted : List ℕ → ℕ → Commands → List ℕ
@@ -34,7 +39,7 @@ abbrev pub counts_after : List ℕ → Loaded → List ℕ
 counts_after l o = pick (is_ok o.answer) (counts_of l o.commands) l
 
 -- what a load leaves in the numbers t of the table, x of the state and n of the counts
-pub record Kept (o : Loaded) (t x n : List ℕ) (r : Result ℕ Refused) (t₁ x₁ n₁ : List ℕ) : Type 0 where
+pub record Kept (o : Loaded) (t x n : List ℕ) (r : Result ℕ LoadRefused) (t₁ x₁ n₁ : List ℕ) : Type 0 where
   pub answer : r ≡ load_of o.answer o.table.count
   pub table : t₁ ≡ table_after t o
   pub state : x₁ ≡ state_after x o

@@ -11,8 +11,8 @@ ghost use Rattle.plain.specs.Calls.{call_of, meant, on, event_of, next_of, run_o
 ghost use Rattle.plain.specs.Told.{checked, numbered, state_kept};
 ghost use Rattle.plain.specs.Loads.{counts_of, Kept};
 
-pub use forms::{Event, Handed};
-use loader::{Commands, Loaded, Refused};
+pub use forms::{Event, Handed, LoadRefused};
+use loader::{Commands, Loaded};
 use plain_encoding::{
     Numbers, is_state, is_table, read_state, read_table, write_state, write_table,
 };
@@ -131,7 +131,7 @@ fn keep_loaded(
     table: &mut Numbers,
     state: &mut Numbers,
     counts: &mut Counts,
-) -> Result<u64, Refused>
+) -> Result<u64, LoadRefused>
     ensures { Kept loaded table.old state.old counts.old result table.new state.new counts.new }
 {
     loaded.answer?;
@@ -150,7 +150,7 @@ pub fn load(
     table: &mut Numbers,
     state: &mut Numbers,
     counts: &mut Counts,
-) -> Result<u64, Refused>
+) -> Result<u64, LoadRefused>
     ensures kept { Kept (loading lent.now ends.now tokens.old).loaded table.old state.old counts.old result table.new state.new counts.new }
     ensures tokens_after { tokens.new ≡ (loading lent.now ends.now tokens.old).buffer }
 {

@@ -55,7 +55,7 @@ pub const MOST_POSITIONS: usize = 2 * (MAX_SERVICES + 3);
 
 // The forms, one on a line: # stands for a number, #256 for one up to 256, #service for one that a service may have, and | separates the words
 // of which a line has one.
-// A constant: scripts/people/play_lines.py reads the forms in this form.
+// A text: the forms stand one on a line, as docs/SCENARIO.md has them; a table of 35 byte strings with their verbs is no plainer.
 const FORMS: [u8; 740] = *b"next
 run
 run #256 #256

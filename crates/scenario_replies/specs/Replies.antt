@@ -1,8 +1,8 @@
 -- Of the code: which text, with which numbers, an answer is.
 use Rattle.std.specs.Prelude.{ℕ, ◌-◌, eqb, ltb, Option, Some, None, Result, Ok, Err, [], ◌∷◌}
 use Rattle.base.specs.Folds.{pick}
-use Rattle.load_lent.specs.declared.Refused.{Refused as Refusal}
 use Rattle.plain.specs.declared.forms.Handed.{Handed}
+use Rattle.plain.specs.declared.forms.LoadRefused.{LoadRefused as Refusal}
 use Rattle.scenario_replies.specs.declared.Text.{Text}
 use Rattle.scenario_replies.specs.declared.Text.TheVariants.{Accepted, Loaded, Refused, LoadRefused, BadLine, Quiet, Moved, Launch, StopCommand, Signal, Earliest, NoEarliest}
 use Rattle.scenario_replies.specs.declared.Reply.{Reply}

@@ -5,8 +5,7 @@ ghost use Rattle.std.specs.Prelude.{◌≡◌};
 ghost use Rattle.scenario_replies.specs.Texts.{texts, lined, place, places};
 ghost use Rattle.scenario_replies.specs.Replies.{reply_of, ok_reply, bad_reply, refused_reply, event_reply, action_text, action_signal, next_reply, query_reply, load_reply};
 
-use load_lent::Refused;
-use plain::Handed;
+use plain::{Handed, LoadRefused};
 
 // The texts of the answers, one on a line, and the lists of names.
 //
@@ -217,25 +216,18 @@ pub fn query_reply(asked: Result<Option<u64>, u64>) -> Reply
 }
 
 // An accepted load has its count of services.
-pub fn load_reply(load: Result<u64, Refused>) -> Reply
+pub fn load_reply(load: Result<u64, LoadRefused>) -> Reply
     ensures { result ≡ load_reply load }
 {
     match load {
         Ok(count) => reply_of(Text::Loaded, count, 0),
-        Err(
-            Refused {
-                number,
-                service,
-                line,
-                column,
-            },
-        ) => Reply {
+        Err(refused) => Reply {
             text: Text::LoadRefused,
             numbers: [
-                u64::from(number),
-                service as u64,
-                line as u64,
-                column as u64,
+                refused.number,
+                refused.service,
+                refused.line,
+                refused.column,
             ],
         },
     }
