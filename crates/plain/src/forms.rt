@@ -22,7 +22,7 @@ pub struct Handed {
 }
 
 // What refuses a load: paper 01's number, with the service, the line and the column.
-// Numbers all: they are a host's own, of 64 bits.
+// Two types: this one has a host's own numbers, of 64 bits, as all that is told here, and Refused those of the loader.
 #[derive(Clone, Copy, Debug, PartialEq, Eq)]
 pub struct LoadRefused {
     pub number: u64,

@@ -18,6 +18,7 @@ pub(crate) fn first_places(numbers: &Numbers, count: u64) -> &[u64] {
 }
 
 // The loaded services, each with its name, of those that were lent, and its type.
+// Two parameters: where a line goes and what it says are lent for one call, and a struct of both is no plainer.
 pub(crate) fn put_services(out: &mut impl Write, services: &[u64], lent: Lent) -> io::Result<()> {
     for (s, settings) in services.chunks(EACH).enumerate() {
         put_text(out, Text::ServiceHead, &[s as u64])?;

@@ -9,7 +9,7 @@ pub(crate) fn put_reply(out: &mut impl Write, reply: Reply) -> io::Result<()> {
 }
 
 // A run's line: how many actions there were, and each of them after a separator.
-// Two slices with a count: `run_to_quiet` writes services and actions so, as the C interface does.
+// Two slices with a count: `run_to_quiet` of plain writes services and actions so.
 pub(crate) fn put_run(
     out: &mut impl Write,
     count: u64,
