@@ -10,7 +10,7 @@ ghost use Rattle.base.specs.Sets.{has_bit, within, single, kept, overlap};
 pub fn has_bit(m: u64, i: usize) -> bool
     ensures { result ≡ has_bit m i }
 {
-    if i < 64 { (m >> i) % 2 == 1 } else { false }
+    i < 64 && (m >> i) % 2 == 1
 }
 
 // The set has no number from n on.
@@ -18,7 +18,7 @@ pub fn has_bit(m: u64, i: usize) -> bool
 pub fn is_within(n: usize, m: u64) -> bool
     ensures { result ≡ within n m }
 {
-    if n < 64 { (m >> n) == 0 } else { true }
+    64 <= n || (m >> n) == 0
 }
 
 // The set of i alone where b holds, and else the empty one. A number from 64 on has no place in a set.

@@ -120,6 +120,7 @@ pub fn run_to_quiet(
     if is_formed(t, x) {
         let room = 4 * t.count;
         if room <= services.len() {
+            // Two tests: must-fail/run_needs_one_room is a wrong program in the second alone.
             if room <= actions.len() {
                 let z = advance(t, x, room, services, actions);
                 let rest = z.state;

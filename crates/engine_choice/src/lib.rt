@@ -13,7 +13,7 @@ use service::{Record, Settings};
 pub use standing::Standing;
 
 // A value for each rule: whether it fits a service, or the set of the services that it fits.
-#[derive(Clone, Copy)]
+#[derive(Clone, Copy, Default)]
 pub struct PerRule<T> {
     pub lose: T,
     pub abandon: T,
@@ -29,16 +29,7 @@ impl PerRule<u64> {
     pub fn none() -> PerRule<u64>
         ensures { result ≡ no_fits }
     {
-        PerRule {
-            lose: 0,
-            abandon: 0,
-            settle: 0,
-            wake: 0,
-            release: 0,
-            begin: 0,
-            end: 0,
-            expire: 0,
-        }
+        PerRule::default()
     }
 
     fn added(self, w: PerRule<bool>, s: usize) -> PerRule<u64>

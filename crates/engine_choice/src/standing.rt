@@ -9,7 +9,7 @@ use base::{has_bit, kept_if, overlaps, single_of};
 use engine_record_tests::{is_barred, is_closing, is_running, is_serving};
 use service::{Cause, Form, Phase, Record, Settings};
 
-#[derive(Clone, Copy)]
+#[derive(Clone, Copy, Default)]
 pub struct Standing {
     // services that are not up with no cause
     pub lost: u64,
@@ -58,15 +58,7 @@ impl Standing {
     pub fn none() -> Standing
         ensures { result ≡ nowhere }
     {
-        Standing {
-            lost: 0,
-            user: 0,
-            barred: 0,
-            unready: 0,
-            blocked: 0,
-            needed: 0,
-            called: 0,
-        }
+        Standing::default()
     }
 
     // The sets with service i as well.

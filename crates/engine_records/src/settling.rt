@@ -18,6 +18,7 @@ pub(crate) fn either<T: Copy>(test: bool, a: T, b: T) -> T
 }
 
 // The count in the window: none where the window is over.
+// A function: that the count is no more than it was is promised here, which `either` cannot say.
 fn window_count(over: bool, n: u64) -> u64
     ensures { (result ≡ pick over 0 n) × (result ≤ n) }
 {
@@ -99,6 +100,7 @@ impl Moment {
         let r = self.found;
         match r.cause {
             Cause::None | Cause::Released => at_rest(r.wanted, r.aside, r),
+            // Two cases: must-fail/restarts_after_stop is a wrong program in the first alone.
             Cause::User => at_rest(false, true, r),
             Cause::Failed => at_rest(false, true, r),
             Cause::Fell => self.settled_fall(),

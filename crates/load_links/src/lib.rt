@@ -32,6 +32,7 @@ pub struct Links {
 
 impl Links {
     // Those of a service that depends on none.
+    // A constant: no derive of Default makes one.
     const NONE: Links = Links {
         hard: 0,
         milestone: 0,
@@ -86,18 +87,12 @@ fn resolve(set: Set, text: &[u8], d: Description) -> Result<Links, Fault>
     ensures { result ≡ links_in (names_of set.entry.lent) (services_of set.entry.lent) text.now d }
 {
     if MAX_DEPENDENCIES < d.count {
-        return Err(Fault {
-            wrong: Wrong::TooManyDependencies,
-            at: 0,
-        });
+        return Err(Wrong::TooManyDependencies.at(0));
     }
     let mut links = Links::NONE;
     for dependency in &d.dependencies[..d.count] {
         let Some(i) = find_word(set.lent, text, dependency.at) else {
-            return Err(Fault {
-                wrong: Wrong::NoSuchService,
-                at: dependency.at,
-            });
+            return Err(Wrong::NoSuchService.at(dependency.at));
         };
         links = links.with(dependency.link, i);
     }

@@ -41,6 +41,7 @@ fn affect(d: &mut Description, e: Effect)
             let k = d.count;
             d.count += 1;
             let places = &mut d.dependencies[..];
+            // A test: with get_mut the proof did not close.
             if k < places.len() {
                 places[k] = Dependency { link, at };
             }

@@ -82,6 +82,7 @@ pub fn is_name_byte(b: u8) -> bool
     matches!(b, b'a'..=b'z' | b'A'..=b'Z' | b'0'..=b'9' | b'-' | b'_' | b'.')
 }
 
+// A function: its contract is `is_digit`, which the definitions of a decimal number have.
 pub fn is_digit(b: u8) -> bool
     ensures { result ≡ is_digit b }
 {
@@ -94,6 +95,7 @@ fn is_sign(b: u8) -> bool
     matches!(b, b'=' | b':')
 }
 
+// A function: its contract is `same`, which the definitions of names and words have.
 pub fn same_bytes(a: &[u8], b: &[u8]) -> bool
     ensures { result ≡ same a.now b.now }
 {

@@ -138,6 +138,7 @@ impl Mode {
 }
 
 impl Sizes {
+    // A constant: no derive of Default makes one.
     const NONE: Sizes = Sizes {
         tokens: 0,
         room: 0,

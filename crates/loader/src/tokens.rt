@@ -40,6 +40,7 @@ pub struct Measured {
 
 impl Measured {
     // That of no command.
+    // A constant: no derive of Default makes one.
     const NONE: Measured = Measured { count: 0, room: 0 };
 }
 
@@ -55,20 +56,13 @@ pub struct Place {
 fn measure(text: &[u8], at: Option<usize>) -> Measured
     ensures { result ≡ record { count = command_count text.now at; room = length (command_bytes text.now at) } }
 {
-    let Some(at) = at else {
-        return Measured::NONE;
-    };
-    match scan_value(value_at(text, at)) {
-        Ok(sizes) => {
-            if sizes.tokens == 0 {
-                return Measured::NONE;
-            }
-            Measured {
-                count: sizes.tokens,
-                room: sizes.room,
-            }
-        }
-        Err(_) => Measured::NONE,
+    let sizes = at.and_then(|at| scan_value(value_at(text, at)).ok());
+    match sizes {
+        Some(sizes) if sizes.tokens != 0 => Measured {
+            count: sizes.tokens,
+            room: sizes.room,
+        },
+        _ => Measured::NONE,
     }
 }
 

@@ -43,6 +43,7 @@ pub fn read_state(numbers: &Numbers) -> State
 }
 
 // Writes the table to the numbers.
+// Two functions: the number in front is the clock of a state and the count of a table, and docs/HOST.md names both.
 pub fn write_table(numbers: &mut Numbers, t: Table)
     ensures { numbers.new ≡ table_numbers numbers.old t }
 {
@@ -52,6 +53,7 @@ pub fn write_table(numbers: &mut Numbers, t: Table)
 }
 
 // The table that the numbers say.
+// Two functions: as for what writes them.
 pub fn read_table(numbers: &Numbers) -> Table
     ensures { result ≡ table_of numbers.now }
 {

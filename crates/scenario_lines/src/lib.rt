@@ -15,6 +15,7 @@ use service::MAX_SERVICES;
 // What a line asks for: the verb of the form that it fits, in the order of the forms, or one that a first byte or word tells. A line
 // that sets a number of a record or of a service's settings has its place among those.
 // A case: `Nothing` is a line that the format has (docs/SCENARIO.md), and no missing one.
+// Two numbers: SetRecord and SetTable have the place among a record's and a table's numbers, as record_numbers and settings_numbers order them.
 #[derive(Clone, Copy, PartialEq, Eq)]
 pub enum Verb {
     Next,
@@ -43,6 +44,7 @@ pub enum Verb {
 
 // A verb with the numbers of the line's second word and of its last. A load with positions has its room and how many they
 // are. What is not there is 0.
+// A struct: a form has up to two numbers, wherever they stand in it, and 22 cases with data would be read by as many lines; no plainer.
 #[derive(Clone, Copy)]
 pub struct Command {
     pub verb: Verb,

@@ -194,26 +194,6 @@ impl Settings {
 
     pub const STOP_TIMEOUT: u64 = 100000;
 
-    // An internal service with the default settings, no dependencies and no commands.
-    pub fn default() -> Settings
-        ensures { result ≡ default_settings }
-    {
-        Settings {
-            kind: Kind::Internal,
-            restart: false,
-            has_stop: false,
-            signal: Signal::Term,
-            delay: Settings::RESTART_DELAY,
-            interval: Settings::RESTART_LIMIT_INTERVAL,
-            limit: Settings::RESTART_LIMIT_COUNT,
-            start_timeout: Settings::START_TIMEOUT,
-            stop_timeout: Settings::STOP_TIMEOUT,
-            hard: 0,
-            milestone: 0,
-            soft: 0,
-        }
-    }
-
     // The form that the type gives the service. No type gives the delayed one yet; the rules have it all the same.
     pub fn form(self) -> Form
         ensures { result ≡ form_of self }
@@ -237,6 +217,28 @@ impl Settings {
         ensures { result ≡ links_of self }
     {
         self.hard | self.milestone | self.soft
+    }
+}
+
+// An internal service with the default settings, no dependencies and no commands.
+impl Default for Settings {
+    ghost is_default = { λ v. v ≡ default_settings };
+
+    fn default() -> Settings {
+        Settings {
+            kind: Kind::Internal,
+            restart: false,
+            has_stop: false,
+            signal: Signal::Term,
+            delay: Settings::RESTART_DELAY,
+            interval: Settings::RESTART_LIMIT_INTERVAL,
+            limit: Settings::RESTART_LIMIT_COUNT,
+            start_timeout: Settings::START_TIMEOUT,
+            stop_timeout: Settings::STOP_TIMEOUT,
+            hard: 0,
+            milestone: 0,
+            soft: 0,
+        }
     }
 }
 
