@@ -132,7 +132,7 @@ def functions_of(tree, crate, path, within):
         inside = within.get((path, start), [])
         if public or inside:
             shown = f'`{name}`' if public else f'`{name}` (inner)'
-            rows.append(f'| `{crate}` | {shown} | {quoted(cited(tree, text, text[start:end]))} | {quoted(inside)} |')
+            rows.append(f'| `{crate}` | {shown} | {quoted(cited(tree, text, tree.part(path, start, end)))} | {quoted(inside)} |')
     return rows
 
 

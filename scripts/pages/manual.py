@@ -17,13 +17,13 @@ BYTES = 'crates/load_text/specs/Bytes.antt'
 WORDS = os.path.join('scripts', 'people', 'words.py')
 
 # The definitions that make a refusal of a number, and which of their arguments it is. `Refused` is the answer's own variant.
-MAKERS = {('crates/load_text/specs/Lines.antt', 'fault'): 0, (REFUSALS, 'bare'): 0, (LOADING, 'tested'): 2}
+MAKERS = {('crates/load_text/specs/Lines.antt', 'fault'): 0, (REFUSALS, 'bare'): 0, (REFUSALS, 'refused_at'): 2, (LOADING, 'tested'): 2}
 
 # The definition that has the number of each thing that can be wrong with a text, and its file. `fault` is given the thing by its case.
 WRONG, WRONGS = 'wrong_number', 'crates/load_text/specs/Numbers.antt'
 
 # The definitions that hand on a number that they are given: what they are given is read where they are called, or was made by one of these.
-HAND_ON = {'fault', 'bare', 'tested', 'passed'}
+HAND_ON = {'fault', 'bare', 'refused_at', 'tested', 'passed'}
 
 # What the values of a property are called on the page, where they are not words.
 CALLED = {'time': 'seconds', 'count': 'a count', 'command': 'tokens', 'service': 'the name of a service'}

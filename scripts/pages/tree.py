@@ -185,6 +185,16 @@ class Tree:
         for k, (name, public, start) in enumerate(found):
             yield name, public, start, found[k + 1][2] if k + 1 < len(found) else len(text)
 
+    def part(self, path, start, end):
+        """The text of the function that begins there, with what its impl says before the functions, and without what follows the impl."""
+        text = self.bare(path)
+        for impl in IMPL.finditer(text):
+            close = text.find('\n}', impl.start())
+            if impl.start() <= start < close:
+                head = text[impl.start():FUNCTION.search(text, impl.start()).start()]
+                return head + text[start:min(end, close)]
+        return text[start:end]
+
     def signature(self, path, start):
         """The name, parameters and result of the function that begins there, in one line, as a caller sees them."""
         text = self.bare(path)[start:]

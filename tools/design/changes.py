@@ -399,26 +399,24 @@ NOW = {
     **{("engine_record_tests", n): "`==` of `service::Phase`, derived: the check finds that `p == Phase::..` is `" + n + " p`" for n in ("is_down", "is_waiting", "is_starting", "is_up", "is_ending")},
     **{("engine_record_tests", n): "`==` of `service::Cause`, derived, in the same way" for n in ("is_none", "is_user")},
     ("engine_record_tests", "is_active"): "`service::Phase::is_active`",
-    ("bench", "read_full"): "`read_to_end` of std, of no more than there is room for (`take`)",
-    ("simulate", "read_full"): "`read_to_end` of std, of no more than there is room for (`take`)",
     ("simulate", "line_after"): "the library's `split_inclusive`",
     ("check_services", "least"): "`usize::min`",
-    ("check_services", "read_up"): "`Buffer::read`, and the facts of `Buffer`",
+    ("check_services", "read_up"): "`Buffer::read` and the facts of `Buffer`; `read_full` for standard input",
     ("engine", "refuse_run"): "`service::Answered::refused`",
     ("engine_calls", "refuse"): "`service::Answered::refused`",
     ("engine_choice", "choose_later"): "`choose`",
     ("engine_records", "cause_if"): "`either`",
     ("engine_records", "either_number"): "`either`",
-    ("engine_records", "zero_if"): "`window_count`",
+    ("engine_records", "zero_if"): "`either`",
     ("engine_records", "user_or_fell"): "`lose`",
-    ("engine_records", "user_or_failed"): "`abandon`, `Moment::timed_out`",
+    ("engine_records", "user_or_failed"): "`Moment::timed_out`",
     ("engine_records", "begin"): "`Moment::begun`",
     ("engine_records", "end"): "`Moment::ending`",
     ("engine_records", "time_out"): "`Moment::timed_out`",
     ("engine_records", "kill"): "`Moment::expired`",
     ("engine_records", "expire"): "`Moment::expired`",
     ("engine_records", "leave_sound"): "`Moment::left`",
-    ("engine_records", "time_since"): "`-` of two times, whose order `Moment` keeps (`ghost launch`), or `saturating_sub`",
+    ("engine_records", "time_since"): "`saturating_sub`",
     ("engine_records", "count_sound"): "`Moment::fall_counted`",
     ("engine_records", "count_fall"): "`Moment::fall_counted`, and `leave` where the record is not sound",
     ("engine_records", "settle_fall"): "`Moment::settled_fall`",
@@ -496,7 +494,7 @@ TYPES_NOW = {
     ("plain", "Next"): "`Result<Option<Handed>, u64>`",
     ("plain", "Run"): "`Result<u64, u64>`",
     ("plain", "Asked"): "`Result<Option<u64>, u64>`",
-    ("plain", "Load"): "`Result<u64, Refused>`",
+    ("plain", "Load"): "`Result<u64, LoadRefused>`",
     ("rules", "Choice"): "`Option<(Rule, usize)>`",
     ("scenario_lines", "const"): "the cases of `Verb`; a bad line is `None`",
     ("scenario_replies", "const"): "the cases of `Text`",
@@ -568,9 +566,8 @@ LEMMAS_NOW = {(crate, name): now for crate, of, now in (
     ("load_reader", "silent_read property_told", "the contract of `read_line`"),
     ("load_text", "same_long", "`same_pointwise`"),
     ("load_text", "at_now", "`found_is`, `found_at` of load_word"),
-    ("load_value", "puts_part", "`puts_taken`"),
     ("load_word", "ten_digits units_fit", "the contract of `read_time`"),
-    ("load_word", "signal_none no_word", "`found_is`"),
+    ("load_word", "no_word", "`found_is`"),
     ("loader", "Passes refused_not_accepted", "the cases of `Result`"),
     ("loader", "texts_end", "`descriptions_from`, by its first equation"),
     ("loader", "refused", "`refused` of specs/Load.antt"),
@@ -578,7 +575,7 @@ LEMMAS_NOW = {(crate, name): now for crate, of, now in (
     ("plain", "Told refusal_told action_told next_refusal run_refusal acted_as", "`next_told`, `query_told`, over `numbered`"),
     ("plain", "Told-by", "`found_good`, `found_bad`"),
     ("plain", "changed_as", "the contract of `change`"),
-    ("plain_encoding", "same_written", "the way back of both (`EncodingLaws`)"),
+    ("plain_encoding", "same_written", "`written_back`, `places_back` of proofs/Back.antt"),
     ("plain_encoding", "Reading state_read table_read", "`read_all`, for both"),
     ("plain_encoding", "Writing table_more", "`line_placed`, for both"),
     ("scenario_replies", "next_quiet next_action_lem next_refused", "the cases of `next_reply`"),
@@ -731,7 +728,7 @@ class Page(Compared):
         derived = [(k, now[k].says) for k in was if k in now and was[k].text == now[k].text and was[k].says != now[k].says]
         out = ["### Public types, traits and constants that changed", ""] + rows(("crate", "old", "new"), changed)
         if derived:
-            out += ["Derived since (`PartialEq`, `Eq`): " + names([k for k, _ in derived]) + ".", ""]
+            out += ["Derived since (`PartialEq`, `Eq`, `Default`): " + names([k for k, _ in derived]) + ".", ""]
         gone = collections.defaultdict(list)
         for k, i in was.items():
             if k not in now:

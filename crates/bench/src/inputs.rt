@@ -17,6 +17,7 @@ pub(crate) const UP_CLOCK: u64 = 1000000;
 
 // The number k modulo n; an n that is neither small nor middle counts as large.
 pub(crate) fn modulo(k: usize, n: usize) -> usize
+    // A fact: this and the two below say it each of its own answer.
     ensures { result < max_services }
 {
     match n {
@@ -27,7 +28,9 @@ pub(crate) fn modulo(k: usize, n: usize) -> usize
 }
 
 // The place of service i in the order of the dependencies.
-fn place_of(i: usize, n: usize) -> usize {
+fn place_of(i: usize, n: usize) -> usize
+    ensures { result < max_services }
+{
     modulo(13 * (i % LARGE), n)
 }
 

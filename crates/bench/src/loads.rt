@@ -1,13 +1,13 @@
 // The loop of loads. Names and texts come from standard input, one after the other.
-ghost use Rattle.std.specs.Prelude.{◌<◌};
+ghost use Rattle.std.specs.Prelude.{◌<◌, ◌≤◌, length};
 ghost use Rattle.service.specs.Limits.{max_services};
 
 use crate::checksum::{all_taken_up, taken_up};
 use crate::inputs::{LARGE, MIDDLE, SMALL, modulo};
 use crate::loops::Loop;
 use loader::{Loaded, load};
+use std::array;
 use std::io::{Input, Read};
-use std::{array, io};
 
 // How many bytes a name has, a text, and both.
 const NAME: usize = 3;
@@ -48,13 +48,28 @@ fn load_taken_up(sum: u64, loaded: &Loaded, s: usize) -> u64
     }
 }
 
+// Reads until the room is full, the input ends or a read fails, and answers how many bytes it put at the start of the room.
+// No Vec: the room is an array, so that nothing ends for want of memory.
+// Three functions: each program has its own, since no crate that they share reads.
+fn read_full(input: &mut impl Read, room: &mut [u8]) -> usize
+    ensures { result ≤ length room.new }
+{
+    let mut used = 0;
+    // A while: a read says how far it came, and no index counts up.
+    while used < room.len() {
+        let Ok(n @ 1..) = input.read(&mut room[used..]) else {
+            break;
+        };
+        used += n;
+    }
+    used
+}
+
 impl Loop {
     // Loads of n services; of each the answer, and one byte of the tokens. An n that is neither small nor middle counts as large.
-    pub(crate) fn loads(self, rt: &(impl Input + Alloc)) -> io::Result<u64> {
-        // Room for the most and one byte more, so that reading allocates no more.
-        let mut lent = Vec::with_capacity(rt.alloc(), INPUT + 1)?;
-        // Standard input that cannot be read counts as ended.
-        let _ = rt.reader().take(INPUT as u64).read_to_end(&mut lent);
+    pub(crate) fn loads(self, rt: &impl Input) -> u64 {
+        let mut lent = [0; INPUT];
+        let used = read_full(&mut rt.reader(), &mut lent);
         let positions = positions();
         let count = match self.n {
             SMALL => 2 * SMALL,
@@ -65,10 +80,10 @@ impl Loop {
         let mut tokens = [0u8; 65536];
         let mut sum = 0;
         for k in 0..self.turns {
-            let loaded = load(lent.as_slice(), ends, &mut tokens);
+            let loaded = load(&lent[..used], ends, &mut tokens);
             sum = load_taken_up(sum, &loaded, modulo(k, self.n));
             sum = taken_up(sum, u64::from(tokens[k % 1024]));
         }
-        Ok(sum)
+        sum
     }
 }

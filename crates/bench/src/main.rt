@@ -34,8 +34,8 @@ fn number_argument(rt: &impl Env, i: usize) -> usize {
 
 // The checksum of the loop of a name, which is filled up with spaces; 0 where none has it.
 // A match: it is made once, before the turns, and what differs within a loop is a closure.
-fn sum_of(rt: &(impl Input + Alloc), name: &[u8], turns: Loop) -> io::Result<u64> {
-    Ok(match name {
+fn sum_of(rt: &impl Input, name: &[u8], turns: Loop) -> u64 {
+    match name {
         b"next-quiet  " => turns.requests(turns.n),
         b"next-launch " => turns.requests(turns.n / 2),
         b"start       " => turns.events(|t, x, s, _| kept(x, engine::start(*t, *x, s))),
@@ -45,9 +45,9 @@ fn sum_of(rt: &(impl Input + Alloc), name: &[u8], turns: Loop) -> io::Result<u64
         b"clock       " => turns.events(|t, x, _, k| kept(x, engine::clock(*t, *x, time_in(k)))),
         b"query       " => turns.queries(),
         b"run         " => turns.runs(),
-        b"load        " => turns.loads(rt)?,
+        b"load        " => turns.loads(rt),
         _ => 0,
-    })
+    }
 }
 
 fn main(rt: HostRuntime) -> io::Result<()> {
@@ -58,6 +58,6 @@ fn main(rt: HostRuntime) -> io::Result<()> {
         n: number_argument(&rt, 2),
         turns: number_argument(&rt, 3),
     };
-    let sum = sum_of(&rt, &word[..12], turns)?;
+    let sum = sum_of(&rt, &word[..12], turns);
     println!(rt; "{sum}")
 }

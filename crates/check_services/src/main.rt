@@ -4,6 +4,8 @@
 mod buffer;
 mod files;
 
+ghost use Rattle.std.specs.Prelude.{◌≤◌, length};
+
 use buffer::{Buffer, ENOUGH_TEXT, Unreadable};
 use load_lent::{Lent, Refused};
 use service::{Kind, Table};
@@ -78,11 +80,11 @@ fn load(
 }
 
 // A match: Kind and Display are of other crates, so that no impl may stand here, and the library of services prints nothing.
-fn kind_word(kind: Kind) -> &'static str {
+fn write_kind(rt: &impl Print, kind: Kind) -> io::Result<()> {
     match kind {
-        Kind::Process => "process",
-        Kind::Scripted => "scripted",
-        Kind::Internal => "internal",
+        Kind::Process => println!(rt; " process"),
+        Kind::Scripted => println!(rt; " scripted"),
+        Kind::Internal => println!(rt; " internal"),
     }
 }
 
@@ -91,19 +93,34 @@ fn write_services(rt: &impl Print, table: Table, lent: Lent) -> io::Result<()> {
     for (s, settings) in table.services.iter().take(table.count).enumerate() {
         print!(rt; "{s} ")?;
         rt.write_all(lent.name(s))?;
-        println!(rt; " {}", kind_word(settings.kind))?;
+        write_kind(rt, settings.kind)?;
     }
     println!(rt; "ok {}", table.count)
 }
 
+// Reads until the room is full, the input ends or a read fails, and answers how many bytes it put at the start of the room.
+// No Vec: the room is an array, so that nothing ends for want of memory.
+// Three functions: each program has its own, since no crate that they share reads.
+fn read_full(input: &mut impl Read, room: &mut [u8]) -> usize
+    ensures { result ≤ length room.new }
+{
+    let mut used = 0;
+    // A while: a read says how far it came, and no index counts up.
+    while used < room.len() {
+        let Ok(n @ 1..) = input.read(&mut room[used..]) else {
+            break;
+        };
+        used += n;
+    }
+    used
+}
+
 fn main(rt: HostRuntime) -> io::Result<()> {
-    // Room for the most and one byte more, so that reading allocates no more.
-    let mut names = Vec::with_capacity(rt.alloc(), INPUT + 1)?;
-    // Standard input that cannot be read counts as ended.
-    let _ = rt.reader().take(INPUT as u64).read_to_end(&mut names);
+    let mut names = [0; INPUT];
+    let used = read_full(&mut rt.reader(), &mut names);
     let mut buffer = Buffer::empty();
     let mut tokens = [0u8; TOKENS];
-    match load(&rt, names.as_slice(), &mut buffer, &mut tokens) {
+    match load(&rt, &names[..used], &mut buffer, &mut tokens) {
         Ok(table) => write_services(&rt, table, buffer.lent()),
         Err(failed) => println!(rt; "{failed}"),
     }

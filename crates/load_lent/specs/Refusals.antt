@@ -19,16 +19,26 @@ abbrev pub has_byte : ℕ → Bool
 has_byte n = leb 6 n && leb n 12
 
 -- "line 0 outside 6 to 12 and 15"
+abbrev pub line_at : List ℕ → ℕ → ℕ → ℕ
+line_at text n at = pick (has_byte n || eqb n 15) (line_number text at) 0
+
 abbrev pub line_of_fault : List ℕ → Fault → ℕ
-line_of_fault text f = pick (has_byte (wrong_number f.wrong) || eqb (wrong_number f.wrong) 15) (line_number text f.at) 0
+line_of_fault text f = line_at text (wrong_number f.wrong) f.at
 
 -- W-201: "the column, from 1, of the byte that decided it", "and 15 carries 1"
-abbrev pub column_of_fault : List ℕ → Fault → ℕ
-column_of_fault text f = pick (has_byte (wrong_number f.wrong)) (column_number text f.at) (pick (eqb (wrong_number f.wrong) 15) 1 0)
+abbrev pub column_at : List ℕ → ℕ → ℕ → ℕ
+column_at text n at = pick (has_byte n) (column_number text at) (pick (eqb n 15) 1 0)
 
--- a fault met in the text of service j
+abbrev pub column_of_fault : List ℕ → Fault → ℕ
+column_of_fault text f = column_at text (wrong_number f.wrong) f.at
+
+-- a fault met in the text of service j, by its number, whichever it is
+abbrev pub refused_at : List ℕ → ℕ → ℕ → ℕ → Refused
+refused_at text j n at = record { number = n; service = j; line = line_at text n at; column = column_at text n at }
+
+-- and by what is wrong
 abbrev pub refused_in : List ℕ → ℕ → Fault → Refused
-refused_in text j f = record { number = wrong_number f.wrong; service = j; line = line_of_fault text f; column = column_of_fault text f }
+refused_in text j f = refused_at text j (wrong_number f.wrong) f.at
 
 -- the way on in the text of service j: a fault in it refuses the set
 abbrev pub in_text : {A B : Type 0} → List ℕ → ℕ → Result A Fault → (A → Result B Refused) → Result B Refused

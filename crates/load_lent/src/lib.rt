@@ -5,9 +5,9 @@ ghost use Rattle.std.specs.Prelude.{◌≡◌, get_or};
 ghost use Rattle.load_lent.specs.Parts.{within, positioned, name_at};
 ghost use Rattle.load_lent.specs.Lents.{names_of, services_of, texts_of};
 ghost use Rattle.load_lent.specs.Checks.{find, found, names_from, sizes_from};
-ghost use Rattle.load_lent.specs.Refusals.{bare, refused_in};
+ghost use Rattle.load_lent.specs.Refusals.{bare, refused_at, refused_in};
 
-use load_text::{Fault, Wrong, column_number, line_number, part, same_bytes};
+use load_text::{Fault, column_number, line_number, part, same_bytes};
 use load_word::is_name;
 
 // What refuses a set: paper 01's number, with the service, the line and the column, 0 where there is none.
@@ -34,27 +34,35 @@ impl Refused {
         }
     }
 
-    // A fault met in the text of a service: one that a byte decided has its line and column, 15 the line of the property and column 1.
-    pub fn within(text: &[u8], service: usize, f: Fault) -> Refused
-        ensures { result ≡ refused_in text.now service f }
+    // A fault met in the text of a service, by its number: one of 6 to 12, which a byte decided, has its line and column, 15 the line of the
+    // property and column 1.
+    // A number: Refused has paper 01's numbers.
+    pub fn at(text: &[u8], service: usize, number: u8, at: usize) -> Refused
+        ensures { result ≡ refused_at text.now service number at }
     {
-        let number = u8::from(f.wrong);
-        let line = line_number(text, f.at);
-        match f.wrong {
-            Wrong::NoType | Wrong::NoCommand => Refused::bare(number, service),
-            Wrong::NoSuchService => Refused {
+        let line = line_number(text, at);
+        match number {
+            6..=12 => Refused {
+                number,
+                service,
+                line,
+                column: column_number(text, at),
+            },
+            15 => Refused {
                 number,
                 service,
                 line,
                 column: 1,
             },
-            _ => Refused {
-                number,
-                service,
-                line,
-                column: column_number(text, f.at),
-            },
+            _ => Refused::bare(number, service),
         }
+    }
+
+    // The same, by what is wrong.
+    pub fn within(text: &[u8], service: usize, f: Fault) -> Refused
+        ensures { result ≡ refused_in text.now service f }
+    {
+        Refused::at(text, service, u8::from(f.wrong), f.at)
     }
 }
 

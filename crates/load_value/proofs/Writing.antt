@@ -3,10 +3,12 @@ use mathlib.Core.Path.{◌≡◌, refl, sym, ap, ◌∙◌}
 use mathlib.Core.List.{List, [], ◌∷◌, ◌++◌}
 use Prim.Native.Nat.{ℕ, ◌+◌, ◌≤◌}
 use native.Mathlib.Numerals.{add-one}
-use native.Mathlib.Nat.{add-zero, zero-add}
+use native.Mathlib.Nat.{add-zero, zero-add, sub-zero}
 use native.Mathlib.Omega.{arith}
 use lib.ListN.{length, take, drop, length-set}
-use lib.Seq.{sets, sets-eq, take-append_seam}
+use lib.Seq.{sets, sets-eq, length-sets, take-append_seam}
+use borrow.Author.Tests.{le-leb}
+use Rattle.load_text.specs.Strings.{part_of}
 use Rattle.load_value.specs.Stores.{Put, Puts}
 
 -- to write E from `a` into d₀ is to write F from o into d
@@ -41,3 +43,12 @@ puts_taken {d} {vs} h p =
     let n = p.next ∙ zero-add (length vs) in
     let b = p.buffer ∙ sets-eq vs d 0 (omega arith) ∙ ap (λ (k : ℕ). vs ++ drop k d) (zero-add (length vs)) in
     rw (n, b) (take-append_seam vs (drop (length vs) d))
+
+-- the same as a part of the buffer
+pub puts_part : {d vs d' : List ℕ} {r : ℕ} → length vs ≤ length d → Puts d 0 vs d' r → part_of d' 0 r ≡ vs
+unfolding part_of
+puts_part {d} {vs} {d'} {r} h p =
+    let n : r ≡ length vs = p.next ∙ zero-add (length vs) in
+    let b : d' ≡ vs ++ drop (length vs) d = p.buffer ∙ sets-eq vs d 0 (omega arith) ∙ ap (λ (k : ℕ). vs ++ drop k d) (zero-add (length vs)) in
+    let l : length d' ≡ length d = ap length p.buffer ∙ length-sets d 0 vs in
+    rw (le-leb 0 r (omega arith), le-leb r (length d') (omega (arith, n, l)), sub-zero r, n, b) (take-append_seam vs (drop (length vs) d))

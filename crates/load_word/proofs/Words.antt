@@ -3,10 +3,11 @@ use mathlib.Core.Path.{◌≡◌, refl}
 use denote.Ref.{Bor}
 use mathlib.Core.Bool.{Bool, true, false}
 use mathlib.Core.List.{List, [], ◌∷◌, map}
-use Prim.Native.Nat.{ℕ, suc, ◌+◌}
+use Prim.Native.Nat.{ℕ, suc, ◌+◌, ◌≤◌, ◌<◌}
 use lib.Dec.{leb}
 use lib.ListN.{get_or}
 use native.Mathlib.Omega.{arith}
+use borrow.Author.Tests.{le-leb, lt-leb}
 use Rattle.std.specs.Prelude.{Option, Some, None, option_map, cond, unwrap_or}
 use Rattle.std.specs.List.{find, list_all}
 use Rattle.base.specs.Folds.{pick}
@@ -14,7 +15,7 @@ use Rattle.service.specs.Numbers.{last_signal, signal_at}
 use Rattle.service.specs.declared.Signal.TheVariants.{Hup, Int, Kill, None as NoSignal, Quit, Term, Usr1, Usr2}
 use Rattle.load_text.specs.Strings.{index_from, same}
 use Rattle.load_text.specs.Bytes.{is_name_byte}
-use Rattle.load_word.specs.Words.{found, name_bytes}
+use Rattle.load_word.specs.Words.{found, name_bytes, signal_names, signal_of}
 
 pub name_all : (s : List ℕ) → list_all is_name_byte s ≡ name_bytes s
 unfolding name_bytes
@@ -60,15 +61,24 @@ pub found_at : {T : Type 0} (n : List ℕ) (es : List (Bor (List ℕ) × T)) {r 
 found_at n es d h = rw h (found_here n es d)
 
 -- a signal at the place that was found, by the tests of the names
-pub signal_found : (a b c d e f g h : Bool)
+pub signal_chosen : (a b c d e f g h : Bool)
     → pick a (Some NoSignal) (pick b (Some Hup) (pick c (Some Int) (pick d (Some Term) (pick e (Some Quit) (pick f (Some Usr1) (pick g (Some Usr2) (pick h (Some Kill) None)))))))
     ≡ pick (leb (pick a 0 (pick b 1 (pick c 2 (pick d 3 (pick e 4 (pick f 5 (pick g 6 (pick h 7 8)))))))) last_signal) (Some (signal_at (pick a 0 (pick b 1 (pick c 2 (pick d 3 (pick e 4 (pick f 5 (pick g 6 (pick h 7 8)))))))))) None
-signal_found true b c d e f g h = refl
-signal_found false true c d e f g h = refl
-signal_found false false true d e f g h = refl
-signal_found false false false true e f g h = refl
-signal_found false false false false true f g h = refl
-signal_found false false false false false true g h = refl
-signal_found false false false false false false true h = refl
-signal_found false false false false false false false true = refl
-signal_found false false false false false false false false = refl
+signal_chosen true b c d e f g h = refl
+signal_chosen false true c d e f g h = refl
+signal_chosen false false true d e f g h = refl
+signal_chosen false false false true e f g h = refl
+signal_chosen false false false false true f g h = refl
+signal_chosen false false false false false true g h = refl
+signal_chosen false false false false false false true h = refl
+signal_chosen false false false false false false false true = refl
+signal_chosen false false false false false false false false = refl
+
+-- a signal by the place that was found
+pub signal_found : (w : List ℕ) {k : ℕ} → index_from w 0 signal_names ≡ k → k < last_signal + 1 → signal_of w ≡ Some (signal_at k)
+unfolding signal_of
+signal_found w {k} e h = rw (e, le-leb k last_signal (omega arith))
+
+pub signal_none : (w : List ℕ) {k : ℕ} → index_from w 0 signal_names ≡ k → last_signal + 1 ≤ k → signal_of w ≡ None
+unfolding signal_of
+signal_none w {k} e h = rw (e, lt-leb k last_signal (omega arith))

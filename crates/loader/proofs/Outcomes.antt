@@ -49,11 +49,11 @@ module _ (text : ℕ → List ℕ) (buffer : List ℕ) (n : ℕ) (ds : List Desc
     sought_as : o ≡ found n (lowest_cyclic vs n)
     sought_as = e ∙ rw (le-leb n max_services h)
 
-    acyclic_on : o ≡ None → acyclic text buffer n ds vs ≡ stored text buffer n ds vs
+    pub acyclic_on : o ≡ None → acyclic text buffer n ds vs ≡ stored text buffer n ds vs
     unfolding acyclic
     acyclic_on s = rw (le-leb n (lowest_cyclic vs n) (found_none n (lowest_cyclic vs n) (sym s ∙ sought_as)))
 
-    acyclic_not : {i : ℕ} → o ≡ Some i → {r : Refused} → r ≡ bare 16 i → acyclic text buffer n ds vs ≡ refused_with buffer r
+    pub acyclic_not : {i : ℕ} → o ≡ Some i → {r : Refused} → r ≡ bare 16 i → acyclic text buffer n ds vs ≡ refused_with buffer r
     unfolding acyclic
     acyclic_not s q =
         let w = found_at n (lowest_cyclic vs n) (sym s ∙ sought_as) in
@@ -62,10 +62,10 @@ module _ (text : ℕ → List ℕ) (buffer : List ℕ) (n : ℕ) (ds : List Desc
 -- ---- the load: each check in turn, with what the checks before it found
 
 module _ {A : Type 0} (buffer : List ℕ) (on : A → Outcome) {r : Result A Refused} where
-  pass_on : {x : A} → r ≡ Ok x → passed buffer r on ≡ on x
+  pub pass_on : {x : A} → r ≡ Ok x → passed buffer r on ≡ on x
   pass_on e = ap (λ (q : Result A Refused). passed buffer q on) e
 
-  pass_not : {w : Refused} → r ≡ Err w → passed buffer r on ≡ refused_with buffer w
+  pub pass_not : {w : Refused} → r ≡ Err w → passed buffer r on ≡ refused_with buffer w
   pass_not e = ap (λ (q : Result A Refused). passed buffer q on) e
 
 module _ (lent ends buffer : List ℕ) where

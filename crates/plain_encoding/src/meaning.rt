@@ -14,7 +14,12 @@ fn is_meant<T: Encoded>(numbers: &Numbers, at: usize) -> bool
     ensures { result ≡ stand_as numbers.now at (T.encoded (T.decoded numbers.now at)) }
 {
     let line = T::decode(numbers, at).encode();
-    numbers[at..at + EACH] == line[..]
+    let mut same = true;
+    // A loop: `==` of slices takes a call for each place, and all places are looked at in each call of a host.
+    for k in 0..EACH {
+        same = same & (numbers[at + k] == line[k]);
+    }
+    same
 }
 
 // Nothing stands in front but the first number, and each place has the numbers of what it says.

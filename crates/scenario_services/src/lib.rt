@@ -30,7 +30,7 @@ pub const POSITIONS: usize = MOST_POSITIONS + 2 * KEPT_SERVICES;
 // How many services were begun; how many bytes are kept, how many of these are the last service's text, and the names and texts, as far
 // as they are kept; and the positions.
 // A count: a load is lent names and texts in one run of bytes, which has fixed room, as paper 01's buffer of texts.
-#[derive(Drop)]
+#[derive(Clone, Copy)]
 pub struct Given {
     pub begun: usize,
     pub bytes: usize,

@@ -1,2 +1,3 @@
 -- The laws.
+pub mod Parting
 pub mod Splits

@@ -6,11 +6,12 @@ use std::io::Write;
 
 // Puts the members of a set in ascending order, with a comma between them.
 fn put_set(out: &mut impl Write, set: u64) -> io::Result<()> {
-    let mut parting = "";
+    let mut parting: &[u8] = b"";
     for member in 0..64u32 {
         if set >> member & 1 == 1 {
-            write!(out, "{parting}{member}")?;
-            parting = ",";
+            out.write_all(parting)?;
+            write!(out, "{member}")?;
+            parting = b",";
         }
     }
     Ok(())

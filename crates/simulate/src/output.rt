@@ -28,16 +28,24 @@ impl Output {
 }
 
 impl Write for Output {
-    // Collects what there is room for; a full buffer is written out first.
     fn write(&mut self, bytes: &[u8]) -> io::Result<usize> {
-        if self.used == ROOM {
-            self.flush()?;
+        self.write_all(bytes)?;
+        Ok(bytes.len())
+    }
+
+    // Collects the bytes; a full buffer is written out first.
+    // A loop over bytes, inlined: most writes are of a few, and a copy of them in turns takes several times as long.
+    #[inline(always)]
+    fn write_all(&mut self, bytes: &[u8]) -> io::Result<()> {
+        for &byte in bytes {
+            if self.used == ROOM {
+                self.to.write_all(&self.bytes)?;
+                self.used = 0;
+            }
+            self.bytes[self.used] = byte;
+            self.used += 1;
         }
-        let n = bytes.len().min(ROOM - self.used);
-        let end = self.used + n;
-        self.bytes[self.used..end].copy_from_slice(&bytes[..n]);
-        self.used = end;
-        Ok(n)
+        Ok(())
     }
 
     // Writes out what is collected.

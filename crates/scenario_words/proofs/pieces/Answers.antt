@@ -1,10 +1,12 @@
--- `pieces` meets its contract.
-use Rattle.std.proofs.Common.{rules, tests}
-use Rattle.std.proofs.lemmas.Iterator.Consumers.{count_from_yields_List}
-use Rattle.scenario_words.proofs.Splits.{parted}
+-- `pieces` meets its contract: what was counted, and the pieces of what is left.
+use Rattle.scenario_words.proofs.Parting.{counting_none, counting_more, counting_all}
 use Rattle.scenario_words.proofs.pieces.Goals as goal
 
+pub loop-b-init : goal.loop-b-init
+loop-b-init c = counting_none
+
+pub loop-b-preserved : goal.loop-b-preserved
+loop-b-preserved c = counting_more c.loop-b.invariant c.loop-b-test.true c.from-count.ensures
+
 pub returns : goal.returns
-returns c =
-    count_from_yields_List c.split.result _ c.count.ensures.ran
-    (parted _ c.args.parting c.args.text.now c.split.ensures.rest c.split.ensures.done c.split.ensures.closure (λ x b q k. search (rules, tests)))
+returns c = search counting_all

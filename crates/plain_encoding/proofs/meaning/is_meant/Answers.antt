@@ -1,7 +1,14 @@
--- `is_meant` meets its contract: the numbers are held against those that are written of what they say.
-use native.Mathlib.Omega.{arith}
-use Rattle.plain_encoding.proofs.Laws.{equal_stands}
+-- `is_meant` meets its contract: the first k numbers of the place are those that are written of what they say.
+use Rattle.base.proofs.Loops.{every_all, every_more, folded_none}
+use Rattle.plain_encoding.specs.Meaning.{stand_as}
 use Rattle.plain_encoding.proofs.meaning.is_meant.Goals as goal
 
+pub loop-k-init : goal.loop-k-init
+loop-k-init g c = folded_none
+
+pub loop-k-preserved : goal.loop-k-preserved
+loop-k-preserved g c = search every_more
+
 pub returns : goal.returns
-returns g c = equal_stands c.args.numbers.now c.args.at _ _ (omega arith) (omega arith) (g.met.T.Encoded.laws.long _) (rw (c.encode-line.ensures, c.decode.ensures)) c.eq.ensures
+unfolding stand_as
+returns g c = rw (← c.decode.ensures, ← c.encode-line.ensures) (every_all c.loop-k.invariant c.loop-k-test.false)
