@@ -4,6 +4,7 @@
 ghost use Rattle.std.specs.Prelude.{◌≡◌, ℕ, ◌≤◌, List, take};
 ghost use Rattle.load_text.specs.Lines.{fault};
 ghost use Rattle.load_text.specs.declared.Wrong.TheVariants.{OutsideRule};
+ghost use Rattle.load_value.specs.Stores.{Puts};
 ghost use Rattle.load_value.specs.Values.{is_word, word_of, word_room};
 ghost use Rattle.load_description.specs.Settings.{blank, value_at, word_at, max_dependencies, taken_of, is_dependency, known};
 ghost use Rattle.load_description.specs.Lines.{command_read, dependency_read, word_read, tokens_read};
@@ -228,6 +229,14 @@ pub fn value_at(text: &[u8], at: usize) -> &[u8]
     ensures { result.now ≡ value_at text.now at }
 {
     part(text, at, line_end(text, at))
+}
+
+// Writes the word that begins at an offset to a caller's buffer, as far as it fits, and answers the word's length.
+#[tactic(auto, unfolding(crate::specs::Settings::word_at))]
+pub fn write_word_at(text: &[u8], at: usize, buffer: &mut [u8]) -> usize
+    ensures { Puts buffer.old 0 (word_at text.now at) buffer.new result }
+{
+    write_word(value_at(text, at), buffer)
 }
 
 // How many places of the dependencies are taken.

@@ -1,26 +1,34 @@
 -- What the code finds of the rows of links is the lowest service on a cycle.
-use Prim.Native.Nat.{◌≤◌, ℕ}
+use Prim.Native.Nat.{◌+◌, ◌<◌, ◌≤◌, ℕ}
 use borrow.Author.Tests.{le-leb, le-ltb, lt-ltb}
 use lib.Dec.{leb, ltb}
+use lib.ListN.{get_or, length, set}
 use mathlib.Core.Bool.{Bool, ◌&&◌, false}
 use mathlib.Core.List.{List}
 use mathlib.Core.Path.{◌∙◌, ◌≡◌, ap, refl, sym}
 use native.Mathlib.Nat.{le_refl}
 use native.Mathlib.Omega.{arith}
 use Rattle.std.specs.Prelude.{None, Option}
+use Rattle.std.proofs.lemmas.List.{get_or_default}
 use Rattle.base.specs.Folds.{first, pick}
 use Rattle.base.specs.Links.{cyclic, reach}
 use Rattle.base.specs.Sets.{has_bit}
 use Rattle.base.proofs.Below.{first_as, some_false}
 use Rattle.base.proofs.Bits.{has_bit_none}
-use Rattle.base.proofs.Filled.{Filled}
+use Rattle.base.proofs.Filled.{Filled, Filling, filling_more}
 use Rattle.base.proofs.Sets.{first_empty}
 use Rattle.service.specs.Limits.{max_services}
+use Rattle.service.specs.Settings.{default_settings, links_of}
 use Rattle.service.specs.declared.Settings.{Settings}
 use Rattle.load_lent.specs.Checks.{found}
 use Rattle.load_links.specs.Links.{links_at, lowest_cyclic}
 use Rattle.links.specs.Rows.{most_rows, rows_as}
 use Rattle.links.proofs.Rounds.{reach_as}
+
+-- the links of one service more
+pub rows_more : (vs : List Settings) (x : Settings) {m n : ℕ} {rows : List ℕ} {l i : ℕ} → Filling 0 (links_at vs) m n rows i → i < n → i < length vs
+    → l ≡ links_of (get_or vs i x) → Filling 0 (links_at vs) m n (set rows i l) (i + 1)
+rows_more vs x {i = i} h k s q = filling_more h k (q ∙ ap links_of (get_or_default vs i x default_settings s))
 
 module _ (rows : List ℕ) (n : ℕ) (h : n ≤ max_services) where
   abbrev own : ℕ → Bool

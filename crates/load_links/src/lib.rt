@@ -5,6 +5,7 @@ ghost use Rattle.std.specs.Prelude.{MatchResult, ◌≡◌, ◌≤◌, ◌<◌, 
 ghost use Rattle.base.specs.Folds.{pick, first};
 ghost use Rattle.base.specs.Sets.{has_bit};
 ghost use Rattle.base.specs.Links.{reach};
+ghost use Rattle.base.proofs.Filled.{Filled};
 ghost use Rattle.links.specs.Rows.{rows_as};
 ghost use Rattle.service.specs.Limits.{max_services};
 ghost use Rattle.load_description.specs.Settings.{word_at};
@@ -12,7 +13,7 @@ ghost use Rattle.load_lent.specs.Parts.{service_count};
 ghost use Rattle.load_lent.specs.Lents.{names_of, services_of, texts_of};
 ghost use Rattle.load_lent.specs.Refusals.{bare};
 ghost use Rattle.load_lent.specs.Checks.{find, found};
-ghost use Rattle.load_links.specs.Links.{with_link, links_in, settings_of, services_from, services_in, lowest_cyclic};
+ghost use Rattle.load_links.specs.Links.{with_link, links_at, links_in, settings_of, services_from, services_in, lowest_cyclic};
 
 use base::has_bit;
 use links::{has_cycle, reach_of};
@@ -141,6 +142,19 @@ pub fn make_services(
     make(set, ds, [Settings::default(); MAX_SERVICES])
 }
 
+// What each of the first n services depends on.
+// A loop: `map` takes the services by value, and goes over all places however few services there are.
+fn link_rows(services: &[Settings; MAX_SERVICES], n: usize) -> [u64; MAX_SERVICES]
+    requires { n ≤ max_services }
+    ensures { Filled 0 (links_at services.now) max_services result n }
+{
+    let mut rows = [0; MAX_SERVICES];
+    for i in 0..n {
+        rows[i] = services[i].all_links();
+    }
+    rows
+}
+
 // The lowest number below n that reaches itself by the rows.
 // A count beside an array: reach_of takes them so, and the core allocates nothing (docs/HOST.md, "Reentrancy").
 fn first_own(n: usize, rows: &[u64; MAX_SERVICES]) -> Option<usize>
@@ -158,7 +172,7 @@ pub fn lowest_cyclic(services: [Settings; MAX_SERVICES], n: usize) -> Option<usi
     if MAX_SERVICES < n {
         return None;
     }
-    let rows = services.map(Settings::all_links);
+    let rows = link_rows(&services, n);
     if has_cycle(n, &rows) {
         first_own(n, &rows)
     } else {
